@@ -1,0 +1,3 @@
+pub mod BitLaws
+pub mod MakingLaws
+pub mod CoveringLaws

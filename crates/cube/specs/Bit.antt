@@ -1,0 +1,15 @@
+-- The bits of a number.
+use Prim.Native.Nat.{ℕ, _/_, _%_, _^_}
+use lib.Bits.{bitOr, bitXor}
+
+-- bit i of n
+abbrev pub bit : ℕ → ℕ → ℕ
+bit n i = n / 2 ^ i % 2
+
+-- n with bit i set
+abbrev pub withBit : ℕ → ℕ → ℕ
+withBit n i = bitOr n (2 ^ i)
+
+-- n with bit i not set
+abbrev pub withoutBit : ℕ → ℕ → ℕ
+withoutBit n i = bitXor (withBit n i) (2 ^ i)

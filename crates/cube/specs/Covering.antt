@@ -1,0 +1,29 @@
+-- Which points a cube covers. Point p + 2 ^ 32 * o is input pattern p at output o, bit i of p being input i.
+use mathlib.Core.Bool.{Bool, true, false, cond, _&&_}
+use mathlib.Core.List.{List, [], _∷_}
+use Prim.Native.Nat.{ℕ, zero, suc, _+_, _*_, _/_, _^_}
+use lib.Dec.{eqb, ltb}
+use Rattle.cube.specs.Bit.{bit}
+use Rattle.cube.specs.declared.cube.Cube.{Cube}
+
+-- the value at a position: at an input 1 negative, 2 positive, 3 absent; at position 32 the word of driven outputs
+abbrev pub value : Cube → ℕ → ℕ
+value c i = cond (ltb i 32) (bit (c .zeros) i + 2 * bit (c .ones) i) (cond (eqb i 32) (c .outputs) 0)
+
+-- whether the value v at position i lets the point x through
+abbrev pub meets : ℕ → ℕ → ℕ → Bool
+meets i v x = cond (ltb i 32) (eqb (bit v (bit x i)) 1) (ltb (x / 2 ^ 32) 32 && eqb (bit v (x / 2 ^ 32)) 1)
+
+-- the test passes at every number below n
+unfoldable pub everywhere : (ℕ → Bool) → ℕ → Bool
+everywhere f zero = true
+everywhere f (suc n) = everywhere f n && f n
+
+-- the point's output is driven, and every present input agrees with its pattern; points from 2 ^ 37 on have no output
+abbrev pub covers : Cube → ℕ → Bool
+covers c x = everywhere (λ i. meets i (value c i) x) 33
+
+-- how many cubes of a list cover the point
+abbrev pub covering : ℕ → List Cube → ℕ
+covering x [] = 0
+covering x (c ∷ cs) = cond (covers c x) 1 0 + covering x cs

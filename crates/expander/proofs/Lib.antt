@@ -1,0 +1,2 @@
+pub mod SheetLaws
+pub mod SpellLaws

@@ -1,0 +1,5 @@
+pub mod Answers
+pub mod Expansions
+pub mod Refusals
+pub mod Splits
+pub mod Tables

@@ -1,0 +1,3 @@
+pub mod PutLaws
+pub mod KeepLaws
+pub mod SheetLaws
