@@ -1,4 +1,5 @@
-// The three ways to split a function f at an input x into halves f0 (x = 0) and f1 (x = 1), f2 being their exclusive or.
+// The three ways to split a function f at an input x into halves f0 (x = 0) and f1 (x = 1), f2 being their
+// exclusive or.
 ghost use mathlib.Core.Path.{_≡_};
 ghost use Prim.Native.Nat.{_+_, _≤_};
 ghost use Rattle.expansion.specs.Splits.{cheapest, spent, firstForm, secondForm, firstFrom};

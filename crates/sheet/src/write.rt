@@ -1,5 +1,5 @@
-// The calls on a sheet. Each takes the state before it and hands on the state after it, or, where it is refused, the same
-// state again; it asks all it has to ask before it writes.
+// The calls on a sheet. Each takes the state before it and hands on the state after it, or, where it is refused, the
+// same state again; it asks all it has to ask before it writes.
 ghost use mathlib.Core.Path.{_≡_};
 ghost use Prim.Native.Nat.{_+_, _<_, _≤_};
 ghost use lib.Dec.{leb};
