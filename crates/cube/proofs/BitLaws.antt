@@ -2,15 +2,15 @@
 -- Assumes nothing.
 use mathlib.Core.Path.{_≡_, refl, sym, ap, ap₂, _∙_}
 use mathlib.Core.Logic.{⊎-elim}
-use mathlib.Core.Bool.{Bool, true, false, cond}
+use mathlib.Core.Bool.{cond}
 use Prim.Native.Nat.{ℕ, zero, suc, _+_, _-_, _*_, _/_, _%_, _^_, _<_, _≤_}
-use native.Mathlib.Nat.{mod-lt, div-eq-of-lt, div-self, pow-suc, mul-mod-left, div-div-eq-div-mul, zero-lt-suc, mul-comm}
+use native.Mathlib.Nat.{mod-lt, div-eq-of-lt, div-self, pow-suc, mul-mod-left, div-div-eq-div-mul, zero-lt-suc, mul-comm, lt-of-le-of-lt}
 use native.Mathlib.Omega.{arith}
-use lib.Bits.{bitAnd, bitOr, bitXor, and-shr, or-shr, xor-shr, and-mod, or-mod, xor-mod, or-add-and, and-le-r, or-lt, xor-lt}
+use lib.Bits.{bitAnd, bitOr, bitXor, and-shr, or-shr, xor-shr, and-mod, or-mod, xor-mod, or-add-and, and-le-l, and-le-r, or-lt, xor-lt, and-zero-r, xor-zero-r, xor-self, xor-assoc, xor-block}
 use lib.Pow.{pow-pos, pow-add, shl-shr, pow-lt}
 use lib.Dec.{eqb}
-use Rattle.std.proofs.shelf.Tests.{cases-order, cases-eq, cond-true, cond-false, eq-eqb, ne-eqb}
-use Rattle.cube.specs.Bit.{bit, withBit, withoutBit}
+use Rattle.std.proofs.shelf.Tests.{cases-order, cases-eq, cases-lt, cond-true, cond-false, eq-eqb, ne-eqb}
+use Rattle.cube.specs.Bit.{bit, withBit, withoutBit, chosen}
 
 pub bit-below : (n i : ℕ) → bit n i < 2
 bit-below n i = mod-lt (n / 2 ^ i) (zero-lt-suc 1)
@@ -71,6 +71,9 @@ by-bit P p q zero h = p
 by-bit P p q (suc zero) h = q
 by-bit P p q (suc (suc n)) h = absurd (omega arith)
 
+pub by-bits : (P : ℕ → ℕ → Type 0) → P 0 0 → P 0 1 → P 1 0 → P 1 1 → (m n : ℕ) → m < 2 → n < 2 → P m n
+by-bits P p q r s m n hm hn = by-bit (λ x. P x n) (by-bit (P 0) p q n hn) (by-bit (P 1) r s n hn) m hm
+
 pub with-bit-at : (n i j : ℕ) → bit (withBit n i) j ≡ cond (eqb j i) 1 (bit n j)
 with-bit-at n i j =
     bit-or n (2 ^ i) j
@@ -103,3 +106,38 @@ with-bit-lt k n i h l = or-lt k n (2 ^ i) h (pow-lt l)
 
 pub without-bit-lt : (k n i : ℕ) → n < 2 ^ k → i < k → withoutBit n i < 2 ^ k
 without-bit-lt k n i h l = xor-lt k _ _ (with-bit-lt k n i h l) (pow-lt l)
+
+pub chosen-bit : (a b m j : ℕ) → bit (chosen a b m) j ≡ chosen (bit a j) (bit b j) (bit m j)
+chosen-bit a b m j =
+    bit-xor a _ j ∙ ap (bitXor (bit a j)) (bit-and (bitXor a b) m j ∙ ap (λ n. bitAnd n (bit m j)) (bit-xor a b j))
+
+-- bit i of b, and every other of a
+pub chosen-at : (a b i j : ℕ) → bit (chosen a b (2 ^ i)) j ≡ cond (eqb i j) (bit b j) (bit a j)
+chosen-at a b i j =
+    chosen-bit a b (2 ^ i) j
+    ∙ ⊎-elim
+    (λ (e : i ≡ j).
+    ap (chosen (bit a j) (bit b j)) (ap (λ m. bit (2 ^ m) j) e ∙ bit-pow-same j)
+    ∙ by-bits (λ x y. chosen x y 1 ≡ y) refl refl refl refl (bit a j) (bit b j) (bit-below a j) (bit-below b j)
+    ∙ sym (cond-true _ _ _ (eq-eqb i j e)))
+    (λ ne.
+    ap (chosen (bit a j) (bit b j)) (bit-pow-other i j (λ e. ne (sym e)))
+    ∙ ap (bitXor (bit a j)) (and-zero-r _) ∙ xor-zero-r _ ∙ sym (cond-false _ _ _ (ne-eqb i j ne)))
+    (cases-eq i j)
+
+pub chosen-lt : (k a b m : ℕ) → a < 2 ^ k → b < 2 ^ k → chosen a b m < 2 ^ k
+chosen-lt k a b m p q = xor-lt k a _ p (lt-of-le-of-lt (and-le-l _ m) (xor-lt k a b p q))
+
+-- exclusive or of numbers with s and t for their lowest bits
+pub xor-low : (s t u v : ℕ) → s < 2 → t < 2 → bitXor (s + 2 * u) (t + 2 * v) ≡ bitXor s t + 2 * bitXor u v
+xor-low s t u v hs ht =
+    let p : s + 2 * u ≡ u * 2 ^ 1 + s = omega arith in
+    let q : t + 2 * v ≡ v * 2 ^ 1 + t = omega arith in
+    ap₂ bitXor p q ∙ xor-block 1 u v s t hs ht ∙ omega arith
+
+-- numbers whose exclusive or is 0 are equal
+xor-same : (a b : ℕ) → bitXor a b ≡ 0 → a ≡ b
+xor-same a b h = sym (xor-zero-r a) ∙ ap (bitXor a) (sym (xor-self b)) ∙ sym (xor-assoc a b b) ∙ ap (λ n. bitXor n b) h
+
+pub xor-some : (a b : ℕ) → (a ≡ b → ⊥) → 0 < bitXor a b
+xor-some a b ne = ⊎-elim (λ h. h) (λ (h : bitXor a b ≤ 0). absurd (ne (xor-same a b (omega arith)))) (cases-lt 0 (bitXor a b))

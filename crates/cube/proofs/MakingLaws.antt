@@ -3,14 +3,14 @@
 use mathlib.Core.Path.{_≡_, refl, sym, ap, ap₂, _∙_}
 use mathlib.Core.HLevel.{isProp→PathP}
 use mathlib.Core.Bool.{Bool, true, false, cond}
-use Prim.Native.Nat.{ℕ, _+_, _-_, _*_, _^_, _<_, _≤_}
+use Prim.Native.Nat.{ℕ, _^_, _<_}
 use native.Mathlib.Nat.{ℕ-set}
 use native.Mathlib.Bridge.{le-prop}
 use native.Mathlib.Omega.{arith}
-use lib.Dec.{eqb, ltb}
+use lib.Dec.{eqb}
 use lib.Bits.{bitOr, or-comm, or-lt}
-use Rattle.std.proofs.shelf.Tests.{eqb-true, eq-eqb, ltb-true, lt-ltb, cond-true, false≢true}
-use Rattle.cube.specs.Bit.{bit, withBit, withoutBit}
+use Rattle.std.proofs.shelf.Tests.{eq-eqb, lt-ltb, cond-true, false≢true}
+use Rattle.cube.specs.Bit.{bit}
 use Rattle.cube.specs.Cubes.{Words, words, wordsOf, hasForms, hasOutput, made, made-by, formed, withForm}
 use Rattle.cube.specs.declared.cube.Cube.{Cube}
 use Rattle.cube.specs.declared.cube.Form.{Form}
@@ -42,17 +42,21 @@ made-is c =
     let e = made-words (words c) (c .full) (c .driven) in
     same-words (made (words c)) c (ap (λ w. w .zeros) e) (ap (λ w. w .ones) e) (ap (λ w. w .outputs) e)
 
-full-bit : (z o i : ℕ) → bitOr z o ≡ 4294967295 → i < 32 → bitOr (bit z i) (bit o i) ≡ 1
+pub full-bit : (z o i : ℕ) → bitOr z o ≡ 4294967295 → i < 32 → bitOr (bit z i) (bit o i) ≡ 1
 full-bit z o i h lt = sym (bit-or z o i) ∙ ap (λ n. bit n i) h ∙ bit-mask 32 i lt
 
-full-from : (z o : ℕ) → z < 2 ^ 32 → o < 2 ^ 32 → ((i : ℕ) → i < 32 → bitOr (bit z i) (bit o i) ≡ 1) → bitOr z o ≡ 4294967295
+pub full-from : (z o : ℕ) → z < 2 ^ 32 → o < 2 ^ 32 → ((i : ℕ) → i < 32 → bitOr (bit z i) (bit o i) ≡ 1) → bitOr z o ≡ 4294967295
 full-from z o hz ho h = bits-same 32 _ _ (or-lt 32 z o hz ho) (omega arith) (λ i lt. bit-or z o i ∙ h i lt ∙ sym (bit-mask 32 i lt))
 
-pub zeros-lt : (z o : ℕ) → bitOr z o ≡ 4294967295 → z < 2 ^ 32
+zeros-lt : (z o : ℕ) → bitOr z o ≡ 4294967295 → z < 2 ^ 32
 zeros-lt z o h = let l = le-or z o in omega arith
 
-pub ones-lt : (z o : ℕ) → bitOr z o ≡ 4294967295 → o < 2 ^ 32
+ones-lt : (z o : ℕ) → bitOr z o ≡ 4294967295 → o < 2 ^ 32
 ones-lt z o h = zeros-lt o z (or-comm o z ∙ h)
+
+-- the words of the inputs of a cube
+pub inputs-lt : (c : Cube) → (c .zeros < 2 ^ 32) × (c .ones < 2 ^ 32)
+inputs-lt c = (zeros-lt (c .zeros) (c .ones) (c .full), ones-lt (c .zeros) (c .ones) (c .full))
 
 -- at one place of two words: x and y there, v and w elsewhere
 chosen-full : (t : Bool) (x y v w : ℕ) → bitOr x y ≡ 1 → bitOr v w ≡ 1 → bitOr (cond t x v) (cond t y w) ≡ 1

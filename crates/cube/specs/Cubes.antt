@@ -1,7 +1,7 @@
 -- Which three words make a cube, and what a cube says of each input and output.
 use mathlib.Core.Path.{_≡_, refl}
 use mathlib.Core.Bool.{Bool, true, false, cond, _&&_}
-use Prim.Native.Nat.{ℕ, _<_}
+use Prim.Native.Nat.{ℕ}
 use lib.Dec.{eqb, ltb, lit<}
 use lib.Bits.{bitOr}
 use Rattle.std.specs.declared.result.Result.{Result}

@@ -1,3 +1,4 @@
 pub mod Bit
 pub mod Cubes
 pub mod Covering
+pub mod Positions

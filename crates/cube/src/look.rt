@@ -9,7 +9,7 @@ use crate::cube::Cube;
 use crate::cube::Form;
 
 // Whether bit i of the word is set.
-fn has(word: u32, i: u32) -> bool
+pub(crate) fn has(word: u32, i: u32) -> bool
     requires { ⌜ i < 32 ⌝ }
     ensures { λ r. ⌜ r ≡ eqb (bit word i) 1 ⌝ }
 {

@@ -8,7 +8,7 @@ use crate::cube::CubeRefusal;
 use crate::cube::Form;
 
 // The word with bit i alone.
-fn only(i: u32) -> u32
+pub(crate) fn only(i: u32) -> u32
     requires { ⌜ i < 32 ⌝ }
     ensures { λ r. ⌜ r ≡ 2 ^ i ⌝ }
 {
@@ -16,7 +16,7 @@ fn only(i: u32) -> u32
 }
 
 // The one place where a cube is put together.
-fn assembled(zeros: u32, ones: u32, outputs: u32) -> Cube
+pub(crate) fn assembled(zeros: u32, ones: u32, outputs: u32) -> Cube
     requires { ⌜ bitOr zeros ones ≡ 4294967295 ⌝ ∗ ⌜ 0 < outputs ⌝ }
     ensures { λ r. ⌜ r ≡ made (wordsOf zeros ones outputs) ⌝ }
 {

@@ -24,7 +24,8 @@ use Rattle.cube.specs.Covering.{value, meets, covers, covering}
 use Rattle.cube.specs.declared.cube.Cube.{Cube}
 use Rattle.cube.proofs.BitLaws.{bit-mask, bit-pow-same}
 use Rattle.cube.proofs.MakingLaws.{made-words}
-use Rattle.cube.proofs.CoveringLaws.{absent-meets, everywhere-all}
+use Rattle.esop.proofs.Everywhere.{everywhere-all}
+use Rattle.cube.proofs.CoveringLaws.{absent-meets}
 use Rattle.expansion.specs.Tables.{binary, inputsOf}
 use Rattle.expansion.specs.Expansions.{Expansion, products, chosen, needed, chosenProducts}
 use Rattle.expansion.specs.Answers.{startOf, asked, expansionOf, counted, filled, Expanded}

@@ -17,13 +17,13 @@ use Rattle.std.proofs.shelf.Tests.{cases-order, cond-true, cond-false, eq-eqb, 
 use Rattle.cube.specs.Bit.{bit}
 use Rattle.cube.specs.Cubes.{wordsOf, withForm}
 use Rattle.cube.specs.Cubes as cubes
-use Rattle.cube.specs.Covering.{value, meets, everywhere, covers, covering}
+use Rattle.cube.specs.Covering.{value, meets, covers, covering}
 use Rattle.cube.specs.declared.cube.Cube.{Cube}
 use Rattle.cube.specs.declared.cube.Form.{Form}
 use Rattle.cube.specs.declared.cube.Form.the-variants.{Negative, Positive, Absent}
 use Rattle.cube.proofs.BitLaws.{bit-below, bit-mask, bit-pow-same}
 use Rattle.cube.proofs.MakingLaws.{made-words}
-use Rattle.cube.proofs.CoveringLaws.{form-value, form-at, form-covers, absent-meets, everywhere-all}
+use Rattle.cube.proofs.CoveringLaws.{form-value, form-at, form-covers}
 use Rattle.expansion.specs.Tables.{binary, mixed}
 use Rattle.expansion.specs.Splits.{spent, cheapest, low, high, sum, firstPart, secondPart, firstForm, secondForm}
 use Rattle.expansion.specs.Expansions.{Expansion, cost, products, chosen, splitAt, needed}

@@ -1,3 +1,2 @@
 pub mod PutLaws
-pub mod KeepLaws
 pub mod SheetLaws

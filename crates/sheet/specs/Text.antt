@@ -7,7 +7,7 @@ use lib.Dec.{ltb}
 use lib.ListN.{length}
 use Rattle.std.specs.shelf.Lists.{joined}
 use Rattle.cube.specs.Cubes.{formOf, driven}
-use Rattle.cube.specs.Covering.{everywhere}
+use Rattle.esop.specs.Positionwise.{everywhere}
 use Rattle.cube.specs.declared.cube.Cube.{Cube}
 use Rattle.cube.specs.declared.cube.Form.{Form}
 use Rattle.cube.specs.declared.cube.Form.the-variants.{Negative, Positive, Absent}

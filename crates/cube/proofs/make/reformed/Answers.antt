@@ -1,5 +1,4 @@
-use mathlib.Core.Path.{_≡_, sym, ap, _∙_, subst}
-use Prim.Native.Nat.{ℕ, _<_}
+use mathlib.Core.Path.{ap, _∙_}
 use lib.Bits.{bitOr, bitXor}
 use Rattle.cube.specs.declared.cube.Form.the-variants.{Negative, Positive, Absent}
 use Rattle.cube.proofs.MakingLaws.{formed-full}

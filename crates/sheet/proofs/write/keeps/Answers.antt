@@ -1,6 +1,6 @@
 use mathlib.Core.Path.{sym, _∙_}
 use Rattle.sheet.specs.Text.{keepsAt}
-use Rattle.sheet.proofs.KeepLaws.{everywhere-none, everywhere-more, everywhere-fails}
+use Rattle.esop.proofs.Everywhere.{everywhere-none, everywhere-more, everywhere-fails}
 use Rattle.sheet.proofs.write.keeps.Needs as need
 
 pub loop-j-holds : need.loop-j-holds

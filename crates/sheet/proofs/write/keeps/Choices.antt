@@ -1,6 +1,6 @@
 use mathlib.Core.Path.{_≡_}
 use mathlib.Core.Bool.{true}
-use Rattle.cube.specs.Covering.{everywhere}
+use Rattle.esop.specs.Positionwise.{everywhere}
 use Rattle.sheet.specs.Text.{keepsAt}
 use Rattle.sheet.proofs.write.keeps.Given as given
 

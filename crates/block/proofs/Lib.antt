@@ -1,0 +1,4 @@
+pub mod MakingLaws
+pub mod SizeLaws
+pub mod ProductLaws
+pub mod PackingLaws

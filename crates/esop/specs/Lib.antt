@@ -1,0 +1,9 @@
+pub mod Kind
+pub mod Positionwise
+pub mod Criterion
+pub mod Entering
+pub mod Linking
+pub mod Running
+pub mod Cursor
+pub mod History
+pub mod Claims

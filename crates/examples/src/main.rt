@@ -1,0 +1,11 @@
+// Worked examples, printed.
+mod kinds;
+mod rows;
+
+use std::io;
+
+fn main(rt: LibcRuntime) -> io::Result<()> {
+    kinds::cubes(&rt)?;
+    kinds::blocks(&rt)?;
+    kinds::packing(&rt)
+}
