@@ -4,7 +4,7 @@ ghost use Prim.Native.Nat.{_<_};
 ghost use lib.Bits.{bitXor};
 ghost use Rattle.esop.specs.Positionwise.{everywhere};
 ghost use Rattle.block.specs.Blocks.{value};
-ghost use Rattle.block.specs.Products.{passes, blocks};
+ghost use Rattle.block.specs.Products.{passes, joined, blocks};
 use crate::block::BlockProduct;
 use crate::make::byte_at;
 use crate::make::replaced;
@@ -39,6 +39,16 @@ fn all_let_through(product: BlockProduct, point: u64) -> bool
     true
 }
 
+// The first product with the joined value of the two at position i.
+fn joined_at(a: BlockProduct, b: BlockProduct, i: usize) -> BlockProduct
+    ensures { λ r. ⌜ r ≡ joined a i b ⌝ }
+{
+    if i >= 8 || a.bytes[i] == b.bytes[i] {
+        return a;
+    }
+    replaced(a, i, mixed(a.bytes[i], b.bytes[i]))
+}
+
 pub impl Product for BlockProduct as BlockProductKind {
     ghost meaning = { blocks };
 
@@ -54,10 +64,7 @@ pub impl Product for BlockProduct as BlockProductKind {
     }
 
     fn join(self, other: BlockProduct, i: usize) -> BlockProduct {
-        if i >= 8 || self.bytes[i] == other.bytes[i] {
-            return self;
-        }
-        replaced(self, i, mixed(self.bytes[i], other.bytes[i]))
+        joined_at(self, other, i)
     }
 
     // What the product comes to as a sum of cubes: one cube of each byte's, in every way.

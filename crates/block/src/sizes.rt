@@ -269,10 +269,18 @@ fn looked_up(byte: u8) -> u8
     SIZES[byte as usize]
 }
 
+// The size of the byte, which is the fewest.
+fn fewest_of(byte: u8) -> u8
+    ensures exact { λ r. ⌜ r ≡ sizeOf byte ⌝ }
+    ensures fewest { λ r. ⌜ Fewest byte r ⌝ }
+{
+    looked_up(byte)
+}
+
 // The fewest cubes of three inputs whose exclusive or is the byte.
 pub fn size(byte: u8) -> u8
     ensures exact { λ r. ⌜ r ≡ sizeOf byte ⌝ }
     ensures fewest { λ r. ⌜ Fewest byte r ⌝ }
 {
-    looked_up(byte)
+    fewest_of(byte)
 }

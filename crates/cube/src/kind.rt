@@ -6,8 +6,9 @@ ghost use lib.Bits.{bitOr, bitXor};
 ghost use lib.Dec.{eqb};
 ghost use Rattle.cube.specs.Bit.{chosen};
 ghost use Rattle.cube.specs.Cubes.{made, words, wordsOf};
-ghost use Rattle.cube.specs.Covering.{valueOf};
-ghost use Rattle.cube.specs.Positions.{takenWords, cubes};
+ghost use Rattle.cube.specs.Covering.{covers, valueOf};
+ghost use Rattle.cube.specs.Positions.{takenWords, joined, weightOf, cubes};
+ghost use Rattle.esop.specs.Kind.{distance};
 use crate::cube::Cube;
 use crate::look::has;
 use crate::make::assembled;
@@ -72,6 +73,42 @@ fn agreeing_inputs(cube: Cube, pattern: u32) -> u32
     chosen(cube.zeros, cube.ones, pattern)
 }
 
+// The first cube with the joined value of the two at position i.
+fn joined_at(a: Cube, b: Cube, i: usize) -> Cube
+    ensures { λ r. ⌜ r ≡ joined a i b ⌝ }
+{
+    if !a.differs(b, i) {
+        return a;
+    }
+    let zeros = mixed(a.zeros, b.zeros);
+    let ones = mixed(a.ones, b.ones);
+    let outputs = mixed(a.outputs, b.outputs);
+    replaced(a, i as u32, zeros, ones, outputs)
+}
+
+// The number of present inputs.
+fn weighed(cube: Cube) -> u32
+    ensures { λ r. ⌜ r ≡ weightOf cube ⌝ }
+{
+    present_inputs(cube).count_ones()
+}
+
+// Whether the point's output is driven, and its pattern agrees.
+fn covers_point(cube: Cube, point: u64) -> bool
+    ensures { λ r. ⌜ r ≡ covers cube point ⌝ }
+{
+    let pattern = (point & 0xffff_ffff) as u32;
+    let output = (point >> 32) as u32;
+    agreeing_inputs(cube, pattern) == 0xffff_ffff && cube.drives(output)
+}
+
+// The number of positions at which the two differ.
+fn apart(a: Cube, b: Cube) -> usize
+    ensures { λ r. ⌜ r ≡ distance cubes a b ⌝ }
+{
+    (unlike_inputs(a, b).count_ones() + unlike_outputs(a, b)) as usize
+}
+
 pub impl Product for Cube as CubeProduct {
     ghost meaning = { cubes };
 
@@ -91,26 +128,18 @@ pub impl Product for Cube as CubeProduct {
     }
 
     fn join(self, other: Cube, i: usize) -> Cube {
-        if !self.differs(other, i) {
-            return self;
-        }
-        let zeros = mixed(self.zeros, other.zeros);
-        let ones = mixed(self.ones, other.ones);
-        let outputs = mixed(self.outputs, other.outputs);
-        replaced(self, i as u32, zeros, ones, outputs)
+        joined_at(self, other, i)
     }
 
     fn weight(self) -> u32 {
-        present_inputs(self).count_ones()
+        weighed(self)
     }
 
     fn covers(self, point: u64) -> bool {
-        let pattern = (point & 0xffff_ffff) as u32;
-        let output = (point >> 32) as u32;
-        agreeing_inputs(self, pattern) == 0xffff_ffff && self.drives(output)
+        covers_point(self, point)
     }
 
     fn distance(self, other: Cube) -> usize {
-        (unlike_inputs(self, other).count_ones() + unlike_outputs(self, other)) as usize
+        apart(self, other)
     }
 }

@@ -1,7 +1,7 @@
 use mathlib.Core.Path.{sym, subst}
 use Rattle.block.specs.Sizes.{Fewest}
 use Rattle.block.proofs.SizeLaws.{fewest}
-use Rattle.block.proofs.sizes.size.Needs as need
+use Rattle.block.proofs.sizes.fewest_of.Needs as need
 
 pub returns : need.returns
 returns c =

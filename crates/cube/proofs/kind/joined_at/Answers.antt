@@ -7,12 +7,12 @@ use Rattle.cube.specs.Cubes.{words, wordsOf}
 use Rattle.cube.specs.Covering.{valueOf}
 use Rattle.cube.specs.Positions.{unlike, mixedWords}
 use Rattle.cube.proofs.PositionLaws.{mixed-some}
-use Rattle.cube.proofs.kind.CubeProduct.join.Needs as need
+use Rattle.cube.proofs.kind.joined_at.Needs as need
 
 pub replaced-requires : need.replaced-requires
 replaced-requires c κs =
-    let a = c .args .self in
-    let b = c .args .other in
+    let a = c .args .a in
+    let b = c .args .b in
     let i = c .args .i in
     let d : unlike a b i ≡ true = sym (c .differs .ensures) ∙ c .if-not-differs .left in
     let e : wordsOf (c .mixed-zeros .result) (c .mixed-ones .result) (c .mixed-outputs .result) ≡ mixedWords (words a) (words b) =

@@ -4,7 +4,7 @@ use native.Mathlib.Omega.{arith}
 use lib.Count.{ones, ones-le}
 use Rattle.std.proofs.shelf.Ways.{tells}
 use Rattle.cube.proofs.CodeLaws.{distance-is}
-use Rattle.cube.proofs.kind.CubeProduct.distance.Needs as need
+use Rattle.cube.proofs.kind.apart.Needs as need
 
 few : (c : need.After-unlike-outputs) → ones (c .unlike-inputs .result) + c .unlike-outputs .result ≤ 33
 few c =
@@ -20,4 +20,4 @@ cast-result c = omega (arith, few c)
 
 pub returns : need.returns
 returns c =
-    ap₂ (λ m n. ones m + n) (c .unlike-inputs .ensures) (c .unlike-outputs .ensures) ∙ distance-is (c .args .self) (c .args .other)
+    ap₂ (λ m n. ones m + n) (c .unlike-inputs .ensures) (c .unlike-outputs .ensures) ∙ distance-is (c .args .a) (c .args .b)
