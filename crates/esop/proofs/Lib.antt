@@ -13,7 +13,3 @@ pub mod Groups
 pub mod Cursor
 pub mod Running
 pub mod History
-pub mod Memory
-pub mod Judging
-pub mod Walking
-pub mod Turning

@@ -7,3 +7,4 @@ pub mod Running
 pub mod Cursor
 pub mod History
 pub mod Claims
+pub mod Strategies

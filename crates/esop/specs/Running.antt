@@ -98,18 +98,6 @@ row-of m k ts = record { tried = at-distance m k (tried-of ts); kept = at-distan
 abbrev pub rows-of : {P : Type 0} → Meaning P → List (Trial P) → Rows
 rows-of m ts = record { two = row-of m 2 ts; three = row-of m 3 ts; four = row-of m 4 ts }
 
--- the empty record
-abbrev pub no-rows : Rows
-no-rows = record { two = record { tried = 0; kept = 0 }; three = record { tried = 0; kept = 0 }; four = record { tried = 0; kept = 0 } }
-
--- a row with one trial more if the trial is of its distance
-abbrev pub raised : Bool → Bool → Row → Row
-raised here b r = record { tried = r .tried + bit here; kept = r .kept + cond b (bit here) 0 }
-
--- the record with one trial more, of a group at distance k, whose link was kept or not
-abbrev pub noted : ℕ → Bool → Rows → Rows
-noted k b s = record { two = raised (eqb k 2) b (s .two); three = raised (eqb k 3) b (s .three); four = raised (eqb k 4) b (s .four) }
-
 abbrev pub all-tried : Rows → ℕ
 all-tried s = s .two .tried + s .three .tried + s .four .tried
 

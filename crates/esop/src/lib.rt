@@ -2,5 +2,6 @@
 pub mod criterion;
 pub mod laws;
 pub mod product;
+pub mod strategy;
 #[cfg(test)]
 mod tests;

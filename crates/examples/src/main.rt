@@ -1,4 +1,5 @@
 // Worked examples, printed.
+mod covers;
 mod kinds;
 mod rows;
 
@@ -7,5 +8,6 @@ use std::io;
 fn main(rt: LibcRuntime) -> io::Result<()> {
     kinds::cubes(&rt)?;
     kinds::blocks(&rt)?;
-    kinds::packing(&rt)
+    kinds::packing(&rt)?;
+    covers::all(&rt)
 }
