@@ -101,8 +101,8 @@ impl<'a, P: Product, const N: usize> Cover<'a, P, N> {
         self.count = last;
     }
 
-    // Enters `p`, for which there is a place. A product at distance 0 goes, and `p` with it; one at distance 1 gives way
-    // to the join of the two, with which all begins again.
+    // Enters `p`, for which there is a place. A product at distance 0 goes, and `p` with it; one at distance 1 gives
+    // way to the join of the two, with which all begins again.
     pub(crate) fn settle(&mut self, mut p: P)
         requires { ⌜ 1 ≤ spare (now self) ⌝ }
         ensures { λ _. ⌜ Entries meaning (p ∷ []) (now (self .entry)) (now (self .exit)) ⌝ }

@@ -64,8 +64,8 @@ impl<'a, P: Product> Cover<'a, P, MOST> {
         self.work_needed() <= work
     }
 
-    // Tries the groups of the cover in turn, until a link is kept, the budget is spent or none is left. The next group is
-    // that of the places `p` and `q` with the order number `o`, or the first one after it.
+    // Tries the groups of the cover in turn, until a link is kept, the budget is spent or none is left. The next group
+    // is that of the places `p` and `q` with the order number `o`, or the first one after it.
     fn round<C: Criterion>(
         &mut self,
         criterion: &C,

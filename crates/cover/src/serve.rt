@@ -91,7 +91,8 @@ impl<'a, P: Product> Cover<'a, P, MOST> {
     }
 }
 
-// Answers the requests in turn, for each of which there is a place for its answer. Returns the count that the cover has in the end.
+// Answers the requests in turn, for each of which there is a place for its answer. Returns the count that the cover
+// has in the end.
 fn serve_all<P: Product, C: Criterion>(
     places: &mut [P],
     list: &[P],
@@ -110,8 +111,8 @@ fn serve_all<P: Product, C: Criterion>(
     cover.count
 }
 
-// Opens a cover on the places, answers the requests in turn, and returns the count that the cover has in the end. It writes
-// each answer to the memory lent for them; where that is too short for the requests, it does nothing.
+// Opens a cover on the places, answers the requests in turn, and returns the count that the cover has in the end. It
+// writes each answer to the memory lent for them; where that is too short for the requests, it does nothing.
 pub fn serve<P: Product, C: Criterion>(
     places: &mut [P],
     list: &[P],

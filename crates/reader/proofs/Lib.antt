@@ -1,0 +1,10 @@
+pub mod LineLaws
+pub mod NumberLaws
+pub mod WordLaws
+pub mod RowLaws
+pub mod JudgedLaws
+pub mod StepLaws
+pub mod StoreLaws
+pub mod SpellLaws
+pub mod AcceptedLaws
+pub mod BackLaws
