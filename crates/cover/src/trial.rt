@@ -138,7 +138,8 @@ impl<'a, P: Product, const N: usize> Cover<'a, P, N> {
     }
 
     // Enters the products of the link of `a` and `b` with the order number `o`. On the way from `a` to `b` the
-    // positions that are still to be taken are those at which the two still differ, so none of them has to be kept in mind.
+    // positions that are still to be taken are those at which the two still differ, so none of them has to be kept in
+    // mind.
     fn enter_link(&mut self, a: P, b: P, o: usize)
         requires few { ⌜ distance meaning a b ≤ 4 ⌝ }
         requires order { ⌜ o < orders-of (distance meaning a b) ⌝ }
