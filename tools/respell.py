@@ -21,6 +21,7 @@ OWN = {
     'in-range': 'ranges',
     'input-chars': 'input_chars_are',
     'output-chars': 'output_chars_are',
+    'keeps-at': 'row_keeps_at',
     'keeps-to': 'row_keeps_to',
     'printed-by': 'written_by',
     'rows-of': 'trial_rows',
