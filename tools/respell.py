@@ -81,12 +81,17 @@ def main():
             print(k, turned[k])
         return
 
-    def put(text, own={}):
-        return TOKEN.sub(lambda m: own.get(m.group(0), turned.get(m.group(0), m.group(0))), text)
+    def put(text, own={}, generated=False):
+        def one(m):
+            # A value after a branch is generated's `x-is`.
+            if generated and m.group(0).endswith('-is') and text[m.start() - 1 : m.start()] == '.':
+                return m.group(0)
+            return own.get(m.group(0), turned.get(m.group(0), m.group(0)))
+        return TOKEN.sub(one, text)
 
     for path in antt_files():
         text = path.read_text()
-        new = put(text, OWN_IN.get(str(path), {}))
+        new = put(text, OWN_IN.get(str(path), {}), len(path.parts) > 4)
         if new != text:
             path.write_text(new)
     for path in sorted(TOP.glob('crates/*/src/**/*.rt')):

@@ -28,7 +28,7 @@ impl EnterRefusal {
 
 // The place of the first product at distance 0 or 1 from `p`.
 fn first_near<P: Product>(products: &[P], p: P) -> Option<usize>
-    ensures { result ≡ seek meaning p products.now }
+    ensures { result ≡ seek P.meaning p products.now }
 {
     for (i, x) in products.iter().enumerate() {
         if p.distance(*x) <= 1 {
@@ -63,7 +63,7 @@ impl<'a, P: Product, const N: usize> Cover<'a, P, N> {
     }
 
     fn seek(&self, p: P) -> Option<usize>
-        ensures { result ≡ seek meaning p (used self.now) }
+        ensures { result ≡ seek P.meaning p (used self.now) }
     {
         first_near(self.products(), p)
     }
@@ -98,7 +98,7 @@ impl<'a, P: Product, const N: usize> Cover<'a, P, N> {
     // way to the join of the two, with which all begins again.
     pub(crate) fn settle(&mut self, mut p: P)
         requires { 1 ≤ spare self.old }
-        ensures { Entries meaning (p ∷ []) self.old self.new }
+        ensures { Entries P.meaning (p ∷ []) self.old self.new }
     {
         while let Some(i) = self.seek(p) {
             let q = self.places[i];
@@ -116,7 +116,7 @@ impl<'a, P: Product, const N: usize> Cover<'a, P, N> {
     // Enters the products in turn. There is a place for each.
     fn settle_all(&mut self, ps: &[P])
         requires { length ps.now ≤ spare self.old }
-        ensures { Entries meaning ps.now self.old self.new }
+        ensures { Entries P.meaning ps.now self.old self.new }
     {
         for p in ps {
             self.settle(*p);
@@ -135,7 +135,7 @@ impl<'a, P: Product> Cover<'a, P, MOST> {
 
     // Enters `p`, and answers the new count.
     pub fn enter(&mut self, p: P) -> Result<usize, EnterRefusal>
-        ensures reply { Replied (admitted meaning (held_of self.old) (p ∷ [])) (entry_answer result) self.new }
+        ensures reply { Replied (admitted P.meaning (held_of self.old) (p ∷ [])) (entry_answer result) self.new }
         ensures same { is_ok result ≡ false → self.new ≡ self.old }
         ensures size { length self.new.places.now ≡ length self.old.places.now }
         ensures lender { self.new.places.ghost_name ≡ self.old.places.ghost_name }
@@ -149,7 +149,7 @@ impl<'a, P: Product> Cover<'a, P, MOST> {
 
     // Enters the products in turn, and answers the new count; or enters none, where there is no place for each.
     pub fn enter_all(&mut self, ps: &[P]) -> Result<usize, EnterRefusal>
-        ensures reply { Replied (admitted meaning (held_of self.old) ps.now) (entry_answer result) self.new }
+        ensures reply { Replied (admitted P.meaning (held_of self.old) ps.now) (entry_answer result) self.new }
         ensures same { is_ok result ≡ false → self.new ≡ self.old }
         ensures size { length self.new.places.now ≡ length self.old.places.now }
         ensures lender { self.new.places.ghost_name ≡ self.old.places.ghost_name }

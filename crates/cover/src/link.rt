@@ -40,7 +40,7 @@ impl LinkRefusal {
 impl<'a, P: Product> Cover<'a, P, MOST> {
     // Questions 2 to 6, of a link of the places `p` and `q` with the order number `o` in `work` places of work memory.
     fn question(&self, work: usize, p: usize, q: usize, o: usize) -> Result<Group<P>, LinkRefusal>
-        ensures { Questioned meaning self.now work p q o result }
+        ensures { Questioned P.meaning self.now work p q o result }
     {
         if p >= q {
             return Err(LinkRefusal::NotOrdered);
@@ -71,7 +71,7 @@ impl<'a, P: Product> Cover<'a, P, MOST> {
         q: usize,
         o: usize,
     ) -> Result<usize, LinkRefusal>
-        ensures reply { Replied (linked meaning (keeps criterion.now) (held_of self.old) p q o (length work.old)) (link_answer result) self.new }
+        ensures reply { Replied (linked P.meaning (C.keeps criterion.now) (held_of self.old) p q o (length work.old)) (link_answer result) self.new }
         ensures same { is_ok result ≡ false → self.new ≡ self.old }
         ensures work { untried result ≡ true → work.new ≡ work.old }
         ensures size { length self.new.places.now ≡ length self.old.places.now }

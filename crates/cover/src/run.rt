@@ -46,7 +46,7 @@ impl RunRefusal {
 
 impl<'a, P: Product> Cover<'a, P, MOST> {
     // How many places of work memory a link and a run need.
-    fn work_needed(&self) -> usize
+    pub fn work_needed(&self) -> usize
         ensures { result ≡ self.now.count + 2 }
     {
         self.count + 2
@@ -54,7 +54,7 @@ impl<'a, P: Product> Cover<'a, P, MOST> {
 
     // Question 6: does the work memory have at least two places more than are in use?
     pub(crate) fn has_work(&self, work: usize) -> bool
-        ensures { Supplied meaning self.now work result }
+        ensures { Supplied P.meaning self.now work result }
     {
         self.work_needed() <= work
     }
@@ -70,7 +70,7 @@ impl<'a, P: Product> Cover<'a, P, MOST> {
     ) -> Stop
         requires work { self.old.count + 2 ≤ length work.old }
         requires record { Fit budget tally.old }
-        ensures { Stopped meaning (keeps criterion.now) budget self.old tally.old work.old self.new tally.new work.new result }
+        ensures { Stopped P.meaning (C.keeps criterion.now) budget self.old tally.old work.old self.new tally.new work.new result }
     {
         let mut p = 0;
         let mut q = 1;
@@ -104,7 +104,7 @@ impl<'a, P: Product> Cover<'a, P, MOST> {
     // Goes round after round, until the budget is spent or the groups of a whole round were tried in vain.
     fn exhaust<C: Criterion>(&mut self, criterion: &C, budget: u32, work: &mut [P]) -> (End, Record)
         requires { self.old.count + 2 ≤ length work.old }
-        ensures { Ended (reported meaning (held_of self.old) (run meaning (keeps criterion.now) budget (used self.old))) self.old work.old self.new result.0 result.1 work.new }
+        ensures { Ended (reported P.meaning (held_of self.old) (run P.meaning (C.keeps criterion.now) budget (used self.old))) self.old work.old self.new result.0 result.1 work.new }
     {
         let mut tally = Record::new();
         loop {
@@ -123,7 +123,7 @@ impl<'a, P: Product> Cover<'a, P, MOST> {
         budget: u32,
         work: &mut [P],
     ) -> Result<(End, Record), RunRefusal>
-        ensures reply { Replied (ran_by meaning (keeps criterion.now) (held_of self.old) budget (length work.old)) (run_answer result) self.new }
+        ensures reply { Replied (ran_by P.meaning (C.keeps criterion.now) (held_of self.old) budget (length work.old)) (run_answer result) self.new }
         ensures same { is_ok result ≡ false → self.new ≡ self.old }
         ensures work { idle result → work.new ≡ work.old }
         ensures size { length self.new.places.now ≡ length self.old.places.now }

@@ -1,10 +1,10 @@
 // Serving: a cover is opened on lent places, and a list of requests is answered.
-ghost use Rattle.std.specs.Prelude.{◌≡◌, ◌≤◌, true, length, take, is_ok};
+ghost use Rattle.std.specs.Prelude.{◌≡◌, ◌<◌, ◌≤◌, true, length, take, is_ok, Ok, Err};
 ghost use Rattle.std.specs.List.{between, AllByRecursion as All};
 ghost use Rattle.esop.specs.History.{served};
 ghost use Rattle.cover.specs.Holding.{held_of};
 ghost use Rattle.cover.specs.Calls.{Replied};
-ghost use Rattle.cover.specs.Serving.{asked, said, call_asked, call_said, Serves, Serving, Untouched};
+ghost use Rattle.cover.specs.Serving.{asked, said, Serves, Untouched};
 
 use crate::entry::EnterRefusal;
 use crate::link::LinkRefusal;
@@ -61,8 +61,7 @@ fn part<P>(list: &[P], from: usize, to: usize) -> &[P]
 impl<'a, P: Product> Cover<'a, P, MOST> {
     // Makes the call that a request asks for.
     fn obey<C: Criterion>(&mut self, list: &[P], request: &Request<P, C>, work: &mut [P]) -> Answer
-        ensures reply { Replied (served meaning keeps (held_of self.old) (asked list.now (length work.old) request.now)) (said result) self.new }
-        ensures call { call_said result ≡ call_asked request.now }
+        ensures reply { Replied (served P.meaning C.keeps (held_of self.old) (asked list.now (length work.old) request.now)) (said result) self.new }
         ensures work { Untouched result → work.new ≡ work.old }
         ensures size { length self.new.places.now ≡ length self.old.places.now }
         ensures lender { self.new.places.ghost_name ≡ self.old.places.ghost_name }
@@ -93,7 +92,7 @@ fn serve_all<P: Product, C: Criterion>(
     answers: &mut [Answer],
 ) -> usize
     requires { length requests.now ≤ length answers.old }
-    ensures all { Serves meaning keeps places.old list.now requests.now (length work.old) answers.old result places.new answers.new }
+    ensures all { Serves P.meaning C.keeps places.old list.now requests.now (length work.old) answers.old result places.new answers.new }
     ensures work { All Untouched (take (length requests.now) answers.new) → work.new ≡ work.old }
 {
     let mut cover = Cover::<P, MOST>::open(places);
@@ -112,7 +111,10 @@ pub fn serve<P: Product, C: Criterion>(
     work: &mut [P],
     answers: &mut [Answer],
 ) -> Result<usize, ServeRefusal>
-    ensures all { Serving meaning keeps places.old list.now requests.now work.old answers.old result places.new work.new answers.new }
+    ensures all { elim result [
+      | Ok n ↦ (length requests.now ≤ length answers.old) × Serves P.meaning C.keeps places.old list.now requests.now (length work.old) answers.old n places.new answers.new
+      | Err e ↦ (length answers.old < length requests.now) × (places.new ≡ places.old) × (work.new ≡ work.old) × (answers.new ≡ answers.old)
+    ] }
     ensures work { is_ok result ≡ true → All Untouched (take (length requests.now) answers.new) → work.new ≡ work.old }
 {
     if answers.len() < requests.len() {

@@ -46,7 +46,7 @@ pub(crate) fn orders(k: usize) -> usize
 // What the products weigh together.
 fn weigh<P: Product>(products: &[P]) -> u64
     requires { length products.now ≤ 962 }
-    ensures* { λ r. ⌜ r ≡ total_weight meaning products.now ⌝ }
+    ensures* { λ r. ⌜ r ≡ total_weight P.meaning products.now ⌝ }
 {
     let mut sum: u64 = 0;
     for x in products {
@@ -82,7 +82,7 @@ pub(crate) fn is_order(o: usize, k: usize) -> bool
 impl<P: Product> Group<P> {
     // The distance of the two products.
     pub(crate) fn span(self) -> usize
-        ensures* { λ r. ⌜ r ≡ Span-of meaning (group_of self) ⌝ }
+        ensures* { λ r. ⌜ r ≡ Span-of P.meaning (group_of self) ⌝ }
     {
         self.a.distance(self.b)
     }
@@ -134,10 +134,10 @@ impl<'a, P: Product, const N: usize> Cover<'a, P, N> {
     // positions that are still to be taken are those at which the two still differ, so none of them has to be kept in
     // mind.
     fn enter_link(&mut self, a: P, b: P, o: usize)
-        requires few { distance meaning a b ≤ 4 }
-        requires order { o < orders-of (distance meaning a b) }
-        requires places { distance meaning a b ≤ spare self.old }
-        ensures* { λ _. ⌜ Entries meaning (link meaning a b o) self.old self.new ⌝ }
+        requires few { distance P.meaning a b ≤ 4 }
+        requires order { o < orders-of (distance P.meaning a b) }
+        requires places { distance P.meaning a b ≤ spare self.old }
+        ensures* { λ _. ⌜ Entries P.meaning (link P.meaning a b o) self.old self.new ⌝ }
     {
         let mut t = a;
         let mut rest = o;
@@ -157,9 +157,9 @@ impl<'a, P: Product, const N: usize> Cover<'a, P, N> {
 impl<'a, P: Product> Cover<'a, P, MOST> {
     // The cover that the link of a group makes, in the work memory.
     fn tried<'w>(&self, work: &'w mut [P], group: Group<P>) -> Cover<'w, P, WORK>
-        requires group { IsGroup meaning (used self.now) (group_of group) }
+        requires group { IsGroup P.meaning (used self.now) (group_of group) }
         requires work { self.now.count + 2 ≤ length work.old }
-        ensures* list { λ r. ⌜ used r ≡ result meaning (used self.now) (group_of group) ⌝ }
+        ensures* list { λ r. ⌜ used r ≡ result P.meaning (used self.now) (group_of group) ⌝ }
         ensures* lender { λ r. ⌜ r.places.ghost_name ≡ work.entry.ghost_name ⌝ }
     {
         let mut list = copied::<P, WORK>(work, self.products());
@@ -175,8 +175,8 @@ impl<'a, P: Product> Cover<'a, P, MOST> {
         list: &Cover<'_, P, WORK>,
         group: Group<P>,
     ) -> bool
-        requires { used list.now ≡ result meaning (used self.now) (group_of group) }
-        ensures* verdict { λ r. ⌜ r ≡ says meaning (keeps criterion.now) (used self.now) (group_of group) ⌝ }
+        requires { used list.now ≡ result P.meaning (used self.now) (group_of group) }
+        ensures* verdict { λ r. ⌜ r ≡ says P.meaning (C.keeps criterion.now) (used self.now) (group_of group) ⌝ }
         ensures* fewer { λ r. ⌜ (r ≡ true → length (used list.now) ≤ self.now.count) ⌝ }
     {
         let before = Size {
@@ -197,10 +197,10 @@ impl<'a, P: Product> Cover<'a, P, MOST> {
         work: &mut [P],
         group: Group<P>,
     ) -> bool
-        requires group { IsGroup meaning (used self.old) (group_of group) }
+        requires group { IsGroup P.meaning (used self.old) (group_of group) }
         requires work { self.old.count + 2 ≤ length work.old }
-        ensures* verdict { λ r. ⌜ r ≡ says meaning (keeps criterion.now) (used self.old) (group_of group) ⌝ }
-        ensures* kept { λ r. ⌜ (r ≡ true → held_of self.new ≡ replaced (held_of self.old) (result meaning (used self.old) (group_of group))) ⌝ }
+        ensures* verdict { λ r. ⌜ r ≡ says P.meaning (C.keeps criterion.now) (used self.old) (group_of group) ⌝ }
+        ensures* kept { λ r. ⌜ (r ≡ true → held_of self.new ≡ replaced (held_of self.old) (result P.meaning (used self.old) (group_of group))) ⌝ }
         ensures* same { λ r. ⌜ (r ≡ false → self.new ≡ self.old) ⌝ }
         ensures* size { λ _. ⌜ length self.new.places.now ≡ length self.old.places.now ⌝ }
         ensures* lender { λ _. ⌜ self.new.places.ghost_name ≡ self.old.places.ghost_name ⌝ }

@@ -13,4 +13,3 @@ pub mod Groups
 pub mod Cursor
 pub mod Running
 pub mod History
-pub mod Lasting

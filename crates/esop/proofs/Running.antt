@@ -162,7 +162,7 @@ module _ {P : Type 0} (m : Meaning P) (test : Test) where
         kept_two = refl;
         kept_three = refl;
         kept_four = refl;
-        kept_in_all = rows_all m (kept_of ts) (kept_spans m ts r.in_rows);
+        kept_all = rows_all m (kept_of ts) (kept_spans m ts r.in_rows);
         tried_two = kept_fewer m 2 ts;
         tried_three = kept_fewer m 3 ts;
         tried_four = kept_fewer m 4 ts;

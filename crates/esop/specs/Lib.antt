@@ -6,6 +6,5 @@ pub mod Linking
 pub mod Running
 pub mod Cursor
 pub mod History
-pub mod Lasting
 pub mod Claims
 pub mod Strategies

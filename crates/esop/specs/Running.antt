@@ -95,9 +95,6 @@ trial_rows m ts = record { two = row_of m 2 ts; three = row_of m 3 ts; four = ro
 abbrev pub all_tried : Rows → ℕ
 all_tried s = s.two.tried + s.three.tried + s.four.tried
 
-abbrev pub all_kept : Rows → ℕ
-all_kept s = s.two.kept + s.three.kept + s.four.kept
-
 -- the trials lead from c to d: each is of a group of the cover then standing, and its link is kept exactly when the criterion says yes
 abbrev pub Tries : {P : Type 0} → Meaning P → Test → List P → List (Trial P) → List P → Type 0
 Tries m test c [] d = c ≡ d
@@ -127,7 +124,7 @@ pub record Runs {P : Type 0} (m : Meaning P) (test : Test) (budget : ℕ) (c : L
   pub kept_two : s.two.kept ≡ at_distance m 2 ls
   pub kept_three : s.three.kept ≡ at_distance m 3 ls
   pub kept_four : s.four.kept ≡ at_distance m 4 ls
-  pub kept_in_all : all_kept s ≡ length ls
+  pub kept_all : s.two.kept + s.three.kept + s.four.kept ≡ length ls
   -- a kept link was tried, and each trial takes one of the budget
   pub tried_two : s.two.kept ≤ s.two.tried
   pub tried_three : s.three.kept ≤ s.three.tried

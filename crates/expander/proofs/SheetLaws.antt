@@ -1,6 +1,6 @@
 -- The sheet of a line, from what expanding its table answered.
 -- Assumes nothing.
-use Rattle.std.proofs.Common.{◌≡◌, ℕ, ◌+◌, ◌-◌, ◌<◌, ◌≤◌, List, ◌++◌, length, take, drop, Ok, Err, Result, sym, refl, ap, ◌∙◌, subst, ap₂, arith}
+use Rattle.std.proofs.Common.{◌≡◌, ℕ, ◌+◌, ◌-◌, ◌^◌, ◌<◌, ◌≤◌, List, [], ◌∷◌, ◌++◌, length, take, drop, None, Ok, Err, Result, sym, refl, ap, ◌∙◌, subst, ap₂, arith}
 use Rattle.std.proofs.lemmas.List.{length-append, length-map, take_at}
 use Rattle.cube.specs.declared.cube.Cube.{Cube}
 use Rattle.expansion.specs.Tables.{inputs_of}
@@ -8,8 +8,7 @@ use Rattle.expansion.specs.Answers.{asked, expansion_of, counted, filled}
 use Rattle.expansion.specs.declared.refusal.ExpandRefusal.{ExpandRefusal}
 use Rattle.expansion.specs.declared.refusal.ExpandRefusal.TheVariants.{Length}
 use Rattle.expansion.proofs.TableLaws.{inputs_past}
-use Rattle.sheet.specs.Refusing.{Answered}
-use Rattle.expander.specs.Printing.{inputs_among, table_of, sheet_inputs, sheet_from, sheet_of, sheet_or}
+use Rattle.expander.specs.Printing.{Answered, inputs_among, table_of, sheet_inputs, sheet_from, sheet_of, sheet_or}
 use Rattle.expander.specs.declared.refusal.PrintRefusal.{PrintRefusal}
 use Rattle.expander.specs.declared.refusal.PrintRefusal.TheVariants.{Table}
 

@@ -2,8 +2,8 @@
 ghost use Rattle.std.specs.Prelude.{◌≡◌, length};
 ghost use Rattle.expansion.specs.Answers.{expansion_of};
 ghost use Rattle.expansion.specs.Tables.{inputs_of};
-ghost use Rattle.sheet.specs.Refusing.{length_within, kept_within, Answered};
-ghost use Rattle.expander.specs.Printing.{inputs_among, sheet_from, sheet_of, sheet_or, printed};
+ghost use Rattle.sheet.specs.Refusing.{length_within, kept_within};
+ghost use Rattle.expander.specs.Printing.{Answered, inputs_among, sheet_from, sheet_of, sheet_or, printed};
 
 use crate::line::{line_of, spell};
 use crate::refusal::PrintRefusal;

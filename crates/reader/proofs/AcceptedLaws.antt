@@ -1,16 +1,16 @@
 -- The rows of a text that is accepted spell its products.
 -- Assumes nothing.
-use Rattle.std.proofs.Common.{◌≡◌, ℕ, suc, ◌+◌, ◌-◌, ◌^◌, ◌<◌, ◌≤◌, true, ◌&&◌, eqb, ltb, leb, List, [], ◌∷◌, ◌++◌, map, length, get_or, take, drop, Some, None, Ok, Err, codes, Option, Result, sym, refl, ap, ◌∙◌, subst, ap₂, ⊎_elim, arith}
+use Rattle.std.proofs.Common.{◌≡◌, ℕ, suc, ◌+◌, ◌-◌, ◌^◌, ◌<◌, ◌≤◌, true, false, not, ◌&&◌, ◌||◌, eqb, ltb, leb, List, [], ◌∷◌, ◌++◌, map, length, get_or, take, drop, Some, None, Ok, Err, codes, Option, Result, sym, refl, ap, ◌∙◌, subst, ap₂, ⊎_elim, arith}
 use Rattle.std.proofs.lemmas.List.{take-append-drop, drop_more}
 use Rattle.std.proofs.lemmas.Bool.{cond-true, cond-false, cond_both, cases_lt, cases_Bool, lt-ltb, le-leb, ltb-true, leb-true, eqb-true, eq-eqb, and_from, and_parts, or_left, or_right}
 use Rattle.std.specs.Str.{bytes_eq}
 use Rattle.cube.specs.Bit.{bit}
-use Rattle.cube.specs.Cubes.{words_of, has_forms, has_output, form_of}
+use Rattle.cube.specs.Cubes.{words_of, has_forms, has_output, form_of, driven}
 use Rattle.cube.specs.declared.cube.Cube.{Cube}
 use Rattle.cube.specs.declared.cube.Form.TheVariants.{Absent}
 use Rattle.cube.specs.BitLaws.{bit_mask}
 use Rattle.cube.specs.MakingLaws.{made_words}
-use Rattle.sheet.specs.Text.{row_text, line, chars, input_chars, output_chars, absent, absent_from, keeps_to}
+use Rattle.sheet.specs.Text.{row_text, line, chars, input_chars, output_chars, absent, keeps_at, keeps_to}
 use Rattle.sheet.specs.Writing.{all_keep}
 use Rattle.reader.specs.declared.state.Heading.{Heading}
 use Rattle.reader.specs.declared.state.ReadRefusal.{ReadRefusal}
@@ -124,24 +124,31 @@ spelled_line i o is os c w =
     ap₂ (λ x y. line (x ++ 32 ∷ y)) (sym a) (sym b)
 
 -- a row says nothing of what lies past its characters
-absent_past : (i o : ℕ) (is os : List ℕ) (c : Cube) → WordsAre i o is os c → (j : ℕ) → j < 32 → absent_from i c j ≡ true
-absent_past i o is os c w j lt =
-    ⊎_elim (λ (l : j < i). or_left (ltb j i) (absent (form_of c j)) (lt-ltb j i l)) (λ (l : i ≤ j). or_right (ltb j i) (absent (form_of c j)) (ap absent (form_past l))) (cases_lt j i)
+row_keeps_at : (i o : ℕ) (is os : List ℕ) (c : Cube) → WordsAre i o is os c → (j : ℕ) → j < 32 → keeps_at i o c j ≡ true
+row_keeps_at i o is os c w j lt =
+    and_from (ltb j i || absent (form_of c j)) (ltb j o || not (driven c j))
+    (⊎_elim (λ (l : j < i). or_left (ltb j i) (absent (form_of c j)) (lt-ltb j i l)) (λ (l : i ≤ j). or_right (ltb j i) (absent (form_of c j)) (ap absent (form_past l))) (cases_lt j i))
+    (⊎_elim (λ (l : j < o). or_left (ltb j o) (not (driven c j)) (lt-ltb j o l)) (λ (l : o ≤ j). or_right (ltb j o) (not (driven c j)) (ap not (driven_past l))) (cases_lt j o))
   where
+    p : (length is ≡ i) × (length os ≡ o) × (i ≤ 32) × (o ≤ 32)
+    p = long_parts i o is os w.long
+
     form_past : i ≤ j → form_of c j ≡ Absent
     form_past l =
-        let q = (long_parts i o is os w.long).0 in
-        let e : length is + (j - length is) ≡ j = omega arith in
-        let m : bit (2 ^ (32 - length is) - 1) (j - length is) ≡ 1 = bit_mask (32 - length is) (j - length is) (omega arith) in
+        let e : length is + (j - length is) ≡ j = let q = p.0 in omega arith in
+        let m : bit (2 ^ (32 - length is) - 1) (j - length is) ≡ 1 = let q = p.0 in bit_mask (32 - length is) (j - length is) (omega arith) in
         let z : bit c.zeros j ≡ 1 = ap (bit c.zeros) (sym e) ∙ w.forms.zeros_past (j - length is) ∙ m in
         let n : bit c.ones j ≡ 1 = ap (bit c.ones) (sym e) ∙ w.forms.ones_past (j - length is) ∙ m in
         cond-true _ _ _ (lt-ltb j 32 lt) ∙ cond-true _ _ _ (eq-eqb _ 1 z) ∙ cond-true _ _ _ (eq-eqb _ 1 n)
 
+    driven_past : o ≤ j → driven c j ≡ false
+    driven_past l =
+        let e : length os + (j - length os) ≡ j = let q = p.1 in omega arith in
+        let z : bit c.outputs j ≡ 0 = ap (bit c.outputs) (sym e) ∙ w.word.past (j - length os) in
+        ap₂ ◌&&◌ (lt-ltb j 32 lt) (ap (λ b. eqb b 1) z)
+
 row_keeps_to : (i o : ℕ) (is os : List ℕ) (c : Cube) → WordsAre i o is os c → keeps_to i o c ≡ true
-row_keeps_to i o is os c w =
-    let e = (long_parts i o is os w.long).1 in
-    and_from _ _ (everywhere_all (absent_from i c) 32 (absent_past i o is os c w))
-    (lt-ltb c.outputs (2 ^ o) (subst (λ n. c.outputs < 2 ^ n) e w.word.within))
+row_keeps_to i o is os c w = everywhere_all (keeps_at i o c) 32 (row_keeps_at i o is os c w)
 
 row_words : (h : Heading) (l : List ℕ) (c : Cube) (r : IsRow h l c) → WordsAre h.inputs h.outputs r.0 r.1 c
 row_words h l c r = subst (Made h.inputs h.outputs r.0 r.1) r.3 (product_made h.inputs h.outputs r.0 r.1)

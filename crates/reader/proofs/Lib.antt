@@ -8,4 +8,3 @@ pub mod StoreLaws
 pub mod SpellLaws
 pub mod AcceptedLaws
 pub mod BackLaws
-pub mod CallLaws

@@ -1,5 +1,7 @@
 // What reading answers for many texts: a line for each, `ok` with the numbers of the heading, or `refused` with the
 // number and the line.
+#![tactic(auto)]
+
 use cube::Cube;
 use reader::read_sheet;
 use std::io;

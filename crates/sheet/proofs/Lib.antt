@@ -1,4 +1,2 @@
 pub mod PutLaws
-pub mod RunLaws
 pub mod SheetLaws
-pub mod TurnLaws

@@ -1,11 +1,11 @@
 -- Texts put into memory one after another, and their lengths.
 -- Assumes nothing.
-use Rattle.std.proofs.Common.{◌≡◌, ℕ, zero, suc, ◌+◌, ◌%◌, ◌<◌, ◌≤◌, List, [], ◌∷◌, ◌++◌, length, take, drop, set, codes, decimal, sym, refl, ap, ◌∙◌, subst, add-one, arith, length-append}
+use Rattle.std.proofs.Common.{◌≡◌, ℕ, zero, suc, ◌+◌, ◌/◌, ◌<◌, ◌≤◌, List, [], ◌∷◌, ◌++◌, length, take, drop, set, codes, sym, refl, ap, ◌∙◌, subst, ap₂, add-one, arith, length-append}
 use lib.Seq.{paste, paste-zero, paste-suc, get_or_at, take-append-le}
-use Rattle.std.proofs.lemmas.Fmt.{decimal_digit}
 use Rattle.std.proofs.lemmas.List.Edits.{paste-paste}
+use Rattle.std.proofs.lemmas.Bool.{cond-true, cond-false, lt-ltb, le-ltb}
 use Rattle.cube.specs.declared.cube.Cube.{Cube}
-use Rattle.sheet.specs.Text.{field, line, type_text, heading_text, chars, input_chars, output_chars, row_text}
+use Rattle.sheet.specs.Text.{digit, decimal, field, line, type_text, heading_text, chars, input_chars, output_chars, row_text}
 use Rattle.sheet.specs.Refusing.{refusal_text}
 use Rattle.sheet.specs.Writing.{written, Put}
 
@@ -61,9 +61,20 @@ pub chars_put : (m n : List ℕ) (p j k r : ℕ) (f : ℕ → ℕ) → n ≡ wri
 chars_put m n p j k r f e h g =
     record { memory = e ∙ ap (λ x. written m p (chars f x)) h; past = let l = chars_length f k in omega arith }
 
--- a number of one digit
-pub one_digit : (n x : ℕ) → x ≡ 48 + n % 10 → n < 10 → x ∷ [] ≡ decimal n
-one_digit n x e h = let d : x ≡ 48 + n = omega arith in ap (λ k. k ∷ []) d ∙ sym (decimal_digit n h)
+-- a number by the count of its digits
+pub one_digit : (n x : ℕ) → x ≡ digit n → n < 10 → x ∷ [] ≡ decimal n
+unfolding decimal
+one_digit n x e h = ap (λ k. k ∷ []) e ∙ sym (cond-true _ _ _ (lt-ltb n 10 h))
+
+pub two_digits : (n x y : ℕ) → x ≡ digit (n / 10) → y ≡ digit n → 10 ≤ n → n < 100 → x ∷ y ∷ [] ≡ decimal n
+unfolding decimal
+two_digits n x y e f l h = ap₂ (λ j k. j ∷ k ∷ []) e f ∙ sym (cond-false _ _ _ (le-ltb n 10 l) ∙ cond-true _ _ _ (lt-ltb n 100 h))
+
+pub three_digits : (n x y z : ℕ) → x ≡ digit (n / 100) → y ≡ digit (n / 10) → z ≡ digit n → 10 ≤ n → 100 ≤ n → x ∷ y ∷ z ∷ [] ≡ decimal n
+unfolding decimal
+three_digits n x y z e f g l h =
+    ap (λ k. k ∷ y ∷ z ∷ []) e ∙ ap₂ (λ j k. digit (n / 100) ∷ j ∷ k ∷ []) f g
+    ∙ sym (cond-false _ _ _ (le-ltb n 10 l) ∙ cond-false _ _ _ (le-ltb n 100 h))
 
 pub field_length : (letter n : ℕ) → length (line (field letter n)) ≡ length (decimal n) + 4
 field_length letter n = let e = length-append (decimal n) (10 ∷ []) in omega arith

@@ -1,5 +1,3 @@
-pub mod InTurn
 pub mod Refusing
-pub mod Reporting
 pub mod Text
 pub mod Writing

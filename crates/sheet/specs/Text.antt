@@ -1,5 +1,5 @@
 -- The text of a sheet: a heading, a row for each product, and an end.
-use Rattle.std.specs.Prelude.{ℕ, zero, suc, ◌^◌, Bool, true, false, ◌&&◌, ◌||◌, List, [], ◌∷◌, ◌++◌, length, codes, decimal, nat_lt}
+use Rattle.std.specs.Prelude.{ℕ, zero, suc, ◌+◌, ◌/◌, ◌%◌, Bool, true, false, cond, not, ◌&&◌, ◌||◌, List, [], ◌∷◌, ◌++◌, length, codes, nat_lt}
 use Rattle.std.specs.List.{flat_map}
 use Rattle.cube.specs.Cubes.{form_of, driven}
 use Rattle.esop.specs.Positionwise.{everywhere}
@@ -7,11 +7,21 @@ use Rattle.cube.specs.declared.cube.Cube.{Cube}
 use Rattle.cube.specs.declared.cube.Form.{Form}
 use Rattle.cube.specs.declared.cube.Form.TheVariants.{Negative, Positive, Absent}
 
+-- the character of the last decimal digit of n
+abbrev pub digit : ℕ → ℕ
+digit n = 48 + n % 10
+
+-- a number below 1000 in decimal, with no leading zero
+unfoldable pub decimal : ℕ → List ℕ
+decimal n =
+    cond (nat_lt n 10) (digit n ∷ [])
+    (cond (nat_lt n 100) (digit (n / 10) ∷ digit n ∷ []) (digit (n / 100) ∷ digit (n / 10) ∷ digit n ∷ []))
+
 -- the characters of a line and the line feed that ends it
 abbrev pub line : List ℕ → List ℕ
 line t = t ++ 10 ∷ []
 
--- a dot, a letter, a space and a number in decimal
+-- a point, a letter, a space and a number
 abbrev pub field : ℕ → ℕ → List ℕ
 field letter n = 46 ∷ letter ∷ 32 ∷ decimal n
 
@@ -59,11 +69,10 @@ absent Negative = false
 absent Positive = false
 absent Absent = true
 
--- input j is absent if it is one from i on
-abbrev pub absent_from : ℕ → Cube → ℕ → Bool
-absent_from i c j = nat_lt j i || absent (form_of c j)
+-- at place j: an input from i on is absent, and an output from o on is not driven
+abbrev pub keeps_at : ℕ → ℕ → Cube → ℕ → Bool
+keeps_at i o c j = (nat_lt j i || absent (form_of c j)) && (nat_lt j o || not (driven c j))
 
--- every input from i on is absent, and no output from o on is driven: the word of outputs has no bit there. So a row of i
--- inputs and o outputs tells all of c.
+-- every input from i on is absent, and no output from o on is driven, so a row of i inputs and o outputs tells all of c
 abbrev pub keeps_to : ℕ → ℕ → Cube → Bool
-keeps_to i o c = everywhere (absent_from i c) 32 && nat_lt c.outputs (2 ^ o)
+keeps_to i o c = everywhere (keeps_at i o c) 32

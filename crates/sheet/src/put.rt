@@ -1,6 +1,6 @@
 // Putting text into memory: each function writes from a place on, and answers the place past what it wrote.
-ghost use Rattle.std.specs.Prelude.{◌≡◌, ◌+◌, ◌%◌, ◌≤◌, length, decimal};
-ghost use Rattle.sheet.specs.Text.{field, line, heading_text, input_chars, output_chars, row_text, form_char, driven_char};
+ghost use Rattle.std.specs.Prelude.{◌≡◌, ◌+◌, ◌≤◌, length};
+ghost use Rattle.sheet.specs.Text.{digit as digitOf, decimal, field, line, heading_text, input_chars, output_chars, row_text, form_char, driven_char};
 ghost use Rattle.sheet.specs.Writing.{Put};
 
 use cube::{Cube, Form};
@@ -16,22 +16,24 @@ pub(crate) fn put(memory: &mut [u8], at: usize, text: &[u8]) -> usize
 }
 
 // The character of the last decimal digit of n.
-fn digit(n: u64) -> u8
-    ensures { result ≡ 48 + n % 10 }
+fn digit(n: u32) -> u8
+    ensures { result ≡ digitOf n }
 {
     b'0' + (n % 10) as u8
 }
 
-// Writes n in decimal: what stands before its last digit, and then that digit.
-pub(crate) fn put_number(memory: &mut [u8], at: usize, n: u64) -> usize
+// Writes n in decimal.
+pub(crate) fn put_number(memory: &mut [u8], at: usize, n: u32) -> usize
     requires { at + length (decimal n) ≤ length memory.old }
     ensures { Put memory.old at (decimal n) memory.new result }
 {
     if n < 10 {
         return put(memory, at, &[digit(n)]);
     }
-    let last = put_number(memory, at, n / 10);
-    put(memory, last, &[digit(n)])
+    if n < 100 {
+        return put(memory, at, &[digit(n / 10), digit(n)]);
+    }
+    put(memory, at, &[digit(n / 100), digit(n / 10), digit(n)])
 }
 
 // Writes a line of a letter and a number.
@@ -40,7 +42,7 @@ fn put_field(memory: &mut [u8], at: usize, letter: u8, n: u32) -> usize
     ensures { Put memory.old at (line (field letter n)) memory.new result }
 {
     let value = put(memory, at, &[b'.', letter, b' ']);
-    let feed = put_number(memory, value, n as u64);
+    let feed = put_number(memory, value, n);
     put(memory, feed, b"\n")
 }
 

@@ -7,14 +7,14 @@ use crate::put::{put, put_number};
 use crate::write::{digits, has_room};
 
 // How long the line is.
-fn refusal_len(number: u64) -> usize
+fn refusal_len(number: u32) -> usize
     ensures { result ≡ length (refusal_text number) }
 {
     digits(number) + 9
 }
 
 // Writes the line, for which there is room.
-fn put_refusal(memory: &mut [u8], number: u64) -> usize
+fn put_refusal(memory: &mut [u8], number: u32) -> usize
     requires { length (refusal_text number) ≤ length memory.old }
     ensures { Put memory.old 0 (refusal_text number) memory.new result }
 {
@@ -29,7 +29,7 @@ pub fn write_refusal(memory: &mut [u8], number: u8) -> Option<usize>
     ensures answer { result ≡ length_within memory.old (refusal_text number) }
     ensures text { memory.new ≡ kept_within memory.old (refusal_text number) }
 {
-    let n = number as u64;
+    let n = u32::from(number);
     if !has_room(memory.len(), 0, refusal_len(n)) {
         return None;
     }

@@ -1,9 +1,8 @@
 // The calls on a sheet. Each takes the state before it and hands on the state after it, or, where it is refused, the
 // same state again; it asks all it has to ask before it writes.
-ghost use Rattle.std.specs.Prelude.{◌≡◌, ◌+◌, ◌^◌, ◌<◌, ◌≤◌, length, decimal, nat_le, nat_lt};
-ghost use Rattle.esop.specs.Positionwise.{everywhere};
+ghost use Rattle.std.specs.Prelude.{◌≡◌, ◌+◌, ◌<◌, ◌≤◌, length, nat_le};
 ghost use Rattle.cube.specs.declared.cube.Cube.{Cube as Product};
-ghost use Rattle.sheet.specs.Text.{heading_text, row_text, end_text, absent_from, keeps_to};
+ghost use Rattle.sheet.specs.Text.{decimal, heading_text, row_text, end_text, keeps_at, keeps_to};
 ghost use Rattle.sheet.specs.Writing.{blank, written, in_range, begun, heading_answer, heading_memory, row_of, continued, row_answer, row_memory, ended, end_answer, end_memory};
 
 use crate::put::{put, put_heading, put_row};
@@ -25,20 +24,20 @@ pub(crate) fn has_room(len: usize, at: usize, need: usize) -> bool
 }
 
 // How many digits n has.
-pub(crate) fn digits(n: u64) -> usize
-    ensures { (result ≡ length (decimal n)) × (result ≤ 20) }
+pub(crate) fn digits(n: u32) -> usize
+    ensures { (result ≡ length (decimal n)) × (result ≤ 3) }
 {
     if n < 10 {
         return 1;
     }
-    digits(n / 10) + 1
+    if n < 100 { 2 } else { 3 }
 }
 
 // How long the heading is.
 pub(crate) fn heading_len(inputs: u32, outputs: u32, rows: u32) -> usize
     ensures { (result ≡ length (heading_text inputs outputs rows)) × (result < 100) }
 {
-    digits(inputs as u64) + digits(outputs as u64) + digits(rows as u64) + 23
+    digits(inputs) + digits(outputs) + digits(rows) + 23
 }
 
 // How long a row is, whichever its product.
@@ -48,10 +47,13 @@ pub(crate) fn row_len(inputs: u32, outputs: u32) -> usize
     inputs as usize + outputs as usize + 2
 }
 
-// Whether input j is absent, if it is one from `inputs` on.
-fn absent_from(product: &Cube, inputs: u32, j: u32) -> bool
-    ensures { result ≡ absent_from inputs product.now j }
+// Whether the product says nothing of an input and an output at place j that the heading does not tell.
+fn keeps_at(product: &Cube, inputs: u32, outputs: u32, j: u32) -> bool
+    ensures { result ≡ keeps_at inputs outputs product.now j }
 {
+    if j >= outputs && product.drives(j) {
+        return false;
+    }
     if j < inputs {
         return true;
     }
@@ -62,34 +64,16 @@ fn absent_from(product: &Cube, inputs: u32, j: u32) -> bool
     }
 }
 
-// Whether the product looks at no input from `inputs` on.
-fn keeps_inputs(product: &Cube, inputs: u32) -> bool
-    ensures { result ≡ everywhere (absent_from inputs product.now) 32 }
-{
-    for j in 0..32 {
-        if !absent_from(product, inputs, j) {
-            return false;
-        }
-    }
-    true
-}
-
-// Whether the product drives no output from `outputs` on.
-fn keeps_outputs(product: &Cube, outputs: u32) -> bool
-    ensures { result ≡ nat_lt product.now.outputs (2 ^ outputs) }
-{
-    let word = product.outputs();
-    if outputs >= 32 {
-        return true;
-    }
-    word < 1 << outputs
-}
-
 // Whether the product keeps to the inputs and outputs that the heading tells.
 pub(crate) fn keeps(product: &Cube, inputs: u32, outputs: u32) -> bool
     ensures { result ≡ keeps_to inputs outputs product.now }
 {
-    keeps_inputs(product, inputs) && keeps_outputs(product, outputs)
+    for j in 0..32 {
+        if !keeps_at(product, inputs, outputs, j) {
+            return false;
+        }
+    }
+    true
 }
 
 // The sheet with its heading, for which there is room.

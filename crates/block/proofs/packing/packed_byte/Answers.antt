@@ -7,5 +7,5 @@ pub returns : goal.returns
 unfolding packed_byte
 returns c =
     ap₂ bit_and
-    (ap₂ bit_and (c.form-table-first.ensures ∙ ap (λ f. form_table f 170) c.form.ensures) (c.form-table-second.ensures ∙ ap (λ f. form_table f 204) c.form-2.ensures))
-    (c.form-table-third.ensures ∙ ap (λ f. form_table f 240) c.form-3.ensures)
+    (ap₂ bit_and (c.form_table-first.ensures ∙ ap (λ f. form_table f 170) c.form.ensures) (c.form_table-second.ensures ∙ ap (λ f. form_table f 204) c.form-2.ensures))
+    (c.form_table-third.ensures ∙ ap (λ f. form_table f 240) c.form-3.ensures)

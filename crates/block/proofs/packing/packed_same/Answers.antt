@@ -6,6 +6,6 @@ use Rattle.block.proofs.packing.packed_same.Goals as goal
 pub returns : goal.returns
 returns c =
     record {
-      exact = c.packed-product.ensures;
-      same = λ x h. ap (λ a. covered a x) c.packed-product.ensures ∙ same_covering c.args.cube.now c.requires.0 c.requires.1 x h;
+      exact = c.packed_product.ensures;
+      same = λ x h. ap (λ a. covered a x) c.packed_product.ensures ∙ same_covering c.args.cube.now c.requires.0 c.requires.1 x h;
     }

@@ -4,10 +4,10 @@ use Rattle.block.specs.Products.{passes}
 use Rattle.esop.proofs.Everywhere.{everywhere_all, everywhere_fails}
 use Rattle.block.proofs.product.all_let_through.Goals as goal
 
-pub returns-then-not-lets-through : goal.returns-then-not-lets-through
-returns-then-not-lets-through c =
+pub returns-then-not-lets_through : goal.returns-then-not-lets_through
+returns-then-not-lets_through c =
     sym (everywhere_fails (λ g. passes g (value c.args.product g) c.args.point) 8 c.loop-g.g (omega arith)
-    (sym c.if-not-lets-through.ensures))
+    (sym c.if-not-lets_through.ensures))
 
 pub returns : goal.returns
 returns c =

@@ -5,5 +5,5 @@ use Rattle.block.proofs.sizes.fewest_of.Goals as goal
 
 pub returns : goal.returns
 returns c =
-    let e = c.looked-up.ensures in
+    let e = c.looked_up.ensures in
     record { exact = e; fewest = subst (Fewest c.args.byte) (sym e) (fewest c.args.byte c.ranges.byte.fits) }

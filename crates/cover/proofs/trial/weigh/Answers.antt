@@ -3,8 +3,8 @@ use Rattle.std.proofs.lemmas.List.{drop_more, drop_all}
 use Rattle.esop.specs.Entering.{total_weight}
 use Rattle.cover.proofs.trial.weigh.Goals as goal
 
-pub overflow-add-sum : goal.overflow-add-sum
-overflow-add-sum g c = record { fits = omega (arith, g.met.P.Product.lawful.weight_bound c.x-item.result, c.weight.ensures) }
+pub overflow_add-sum : goal.overflow_add-sum
+overflow_add-sum g c = record { fits = omega (arith, g.met.P.Product.lawful.weight_bound c.x-item.result, c.weight.ensures) }
 
 pub loop-x-preserved : goal.loop-x-preserved
 loop-x-preserved g c =

@@ -4,4 +4,4 @@ use Rattle.cube.proofs.CodeLaws.{present_is}
 use Rattle.cube.proofs.kind.weighed.Goals as goal
 
 pub returns : goal.returns
-returns c = ap ones c.present-inputs.ensures ∙ present_is c.args.cube
+returns c = ap ones c.present_inputs.ensures ∙ present_is c.args.cube

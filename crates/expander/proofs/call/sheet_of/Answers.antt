@@ -7,4 +7,4 @@ returns-then-n-gt1024 c = too_long c.args.line.now c.args.text.now _ (omega arit
 
 pub returns : goal.returns
 returns c = of_line c.args.line.now _ c.args.text.now _ _ _
-    (spelled_part c.args.line.now _ _ c.spell.ensures) refl c.sheet-with.ensures
+    (spelled_part c.args.line.now _ _ c.spell.ensures) refl c.sheet_with.ensures

@@ -27,7 +27,7 @@ returns-then-k-eq0 t c =
 
 pub emit-middle-requires : goal.emit-middle-requires
 emit-middle-requires t c =
-    let part = first_part_read (split_at c.args.k c.args.table.now) (length c.args.table.now / 2) c.args.table.now _ _ _ c.survey-split.ensures.split c.survey-split.ensures.table c.first-from-from.ensures in (
+    let part = first_part_read (split_at c.args.k c.args.table.now) (length c.args.table.now / 2) c.args.table.now _ _ _ c.survey-split.ensures.split c.survey-split.ensures.table c.first_from-from.ensures in (
       omega (arith, c.decreases),
       (
         omega arith,
@@ -47,7 +47,7 @@ emit-end-requires t c =
     let s = split_at c.args.k t₀ in
     let split = c.survey-split.ensures.split in
     let two = two_halves c.args.k (length c.args.table.now) c.if-k-eq0.false c.requires.1.0 in
-    let first = first_part_read s h t₀ _ _ _ split c.survey-split.ensures.table c.first-from-from.ensures in
+    let first = first_part_read s h t₀ _ _ _ split c.survey-split.ensures.table c.first_from-from.ensures in
     let mid = turned_now s h t₀ _ _ _ split (part_back _ _ _ _ c.emit-middle.ensures.table ∙ c.survey-split.ensures.table) c.turn.ensures in
     let second = second_part_read s h t₀ _ two mid in (
       omega (arith, c.decreases),
@@ -75,14 +75,14 @@ returns t c =
     let s = split_at c.args.k t₀ in
     let split = c.survey-split.ensures.split in
     let two = two_halves c.args.k (length t₀) c.if-k-eq0.false c.requires.1.0 in
-    let first = first_part_read s h t₀ _ _ _ split c.survey-split.ensures.table c.first-from-from.ensures in
+    let first = first_part_read s h t₀ _ _ _ split c.survey-split.ensures.table c.first_from-from.ensures in
     let mid = turned_now s h t₀ _ _ _ split (part_back _ _ _ _ c.emit-middle.ensures.table ∙ c.survey-split.ensures.table) c.turn.ensures in
     let second = second_part_read s h t₀ _ two mid in
     let back = turned_now s h (turned s h t₀) _ _ _ split (part_back _ _ _ _ c.emit-end.ensures.table ∙ mid) c.turn-2.ensures in
     let placed =
     both_placed c.args.k t₀ c.if-k-eq0.false c.requires.1.0 c.args.product c.args.list.now c.args.at c.requires.1.1
     _ _ _ _ _ _ _ _ first second
-    (c.with-form-first.ensures ∙ ap (with_form c.args.product (c.args.k - 1)) (c.first-form.ensures ∙ ap first_form split))
-    (c.with-form-second.ensures ∙ ap (with_form c.args.product (c.args.k - 1)) (c.second-form.ensures ∙ ap second_form split))
+    (c.with_form-first.ensures ∙ ap (with_form c.args.product (c.args.k - 1)) (c.first_form.ensures ∙ ap first_form split))
+    (c.with_form-second.ensures ∙ ap (with_form c.args.product (c.args.k - 1)) (c.second_form.ensures ∙ ap second_form split))
     c.emit-middle.ensures.end c.emit-middle.ensures.list c.emit-end.ensures.end c.emit-end.ensures.list in
     record { end = placed.0; list = placed.1; table = back ∙ turned_twice h t₀ two s }

@@ -6,7 +6,7 @@ use Rattle.reader.proofs.row.forms.Goals as goal
 
 pub loop-i-init : goal.loop-i-init
 loop-i-init c =
-    let e = c.low-bits-zeros.ensures in
+    let e = c.low_bits-zeros.ensures in
     let p = pow_pos (32 - length c.args.part.now) in (
       omega arith,
       omega arith,

@@ -2,20 +2,20 @@ use Rattle.std.proofs.Common.{sym, refl, ◌∙◌}
 use Rattle.reader.proofs.RowLaws.{product_short, product_long}
 use Rattle.reader.proofs.row.product.Goals as goal
 
-pub returns-then-not-as-long : goal.returns-then-not-as-long
-returns-then-not-as-long c = sym (product_short _ _ _ _ (sym c.as-long.ensures ∙ c.if-not-as-long.true))
+pub returns-then-not-as_long : goal.returns-then-not-as_long
+returns-then-not-as_long c = sym (product_short _ _ _ _ (sym c.as_long.ensures ∙ c.if-not-as_long.true))
 
 pub returns-in-default : goal.returns-in-default
 returns-in-default c =
-    sym (product_long _ _ _ _ _ _ (sym c.as-long.ensures ∙ c.if-not-as-long.false) (sym c.forms.ensures ∙ c.in-default.is) refl)
+    sym (product_long _ _ _ _ _ _ (sym c.as_long.ensures ∙ c.if-not-as_long.false) (sym c.forms.ensures ∙ c.in-default.is) refl)
 
 pub returns-in-default-outputs : goal.returns-in-default-outputs
 returns-in-default-outputs c =
-    sym (product_long _ _ _ _ _ _ (sym c.as-long.ensures ∙ c.if-not-as-long.false) (sym c.forms.ensures ∙ c.in-Some.is)
+    sym (product_long _ _ _ _ _ _ (sym c.as_long.ensures ∙ c.if-not-as_long.false) (sym c.forms.ensures ∙ c.in-Some.is)
     (sym c.outputs.ensures ∙ c.in-default-outputs.is))
 
 pub returns : goal.returns
 returns c =
     c.made.ensures
-    ∙ sym (product_long _ _ _ _ _ _ (sym c.as-long.ensures ∙ c.if-not-as-long.false) (sym c.forms.ensures ∙ c.in-Some.is)
+    ∙ sym (product_long _ _ _ _ _ _ (sym c.as_long.ensures ∙ c.if-not-as_long.false) (sym c.forms.ensures ∙ c.in-Some.is)
     (sym c.outputs.ensures ∙ c.in-Some-outputs.is))

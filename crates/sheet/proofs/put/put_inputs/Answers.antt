@@ -8,8 +8,8 @@ loop-j-init c = chars_start c.args.memory.now c.args.at _
 
 pub loop-j-preserved : goal.loop-j-preserved
 loop-j-preserved c =
-    put_char c.args.memory.now c.loop-j.memory c.args.at c.loop-j.j c.form-char.result _ (omega arith) c.loop-j.invariant
-    (c.form-char.ensures ∙ ap form_char c.form.ensures)
+    put_char c.args.memory.now c.loop-j.memory c.args.at c.loop-j.j c.form_char.result _ (omega arith) c.loop-j.invariant
+    (c.form_char.ensures ∙ ap form_char c.form.ensures)
 
 pub returns : goal.returns
 returns c = chars_put c.args.memory.now c.loop-j.memory c.args.at c.loop-j.j c.args.inputs _ _ c.loop-j.invariant (omega arith) refl

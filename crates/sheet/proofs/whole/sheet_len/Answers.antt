@@ -3,4 +3,4 @@ use Rattle.sheet.proofs.whole.sheet_len.Goals as goal
 
 pub returns : goal.returns
 returns c =
-    λ cs e. sheet_length_by c.args.inputs c.args.outputs c.args.rows _ _ cs c.heading-len.ensures.0 c.row-len.ensures.1 e
+    λ cs e. sheet_length_by c.args.inputs c.args.outputs c.args.rows _ _ cs c.heading_len.ensures.0 c.row_len.ensures.1 e

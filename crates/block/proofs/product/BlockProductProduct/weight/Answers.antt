@@ -5,8 +5,8 @@ use Rattle.block.specs.MakingLaws.{bytes_length}
 use Rattle.block.specs.ProductLaws.{weight_more, weight_fits}
 use Rattle.block.proofs.product.BlockProductProduct.weight.Goals as goal
 
-pub overflow-mul-weight : goal.overflow-mul-weight
-overflow-mul-weight c =
+pub overflow_mul-weight : goal.overflow_mul-weight
+overflow_mul-weight c =
     let b = get_or c.args.self.bytes c.loop-i.i 0 in
     record { fits = weight_fits c.args.self.bytes c.loop-i.i _ _ b c.loop-i.auto.i-end c.loop-i.invariant c.size.ensures.exact }
 

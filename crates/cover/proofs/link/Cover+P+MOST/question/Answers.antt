@@ -25,22 +25,22 @@ returns-then-orders-eq0 g c =
     let none = orders_none (span m group) c.orders.result (c.orders.ensures ∙ orders_at c.span-k.ensures) c.if-orders-eq0.true in
     (refl, λ test. no_group m test (held_of c.args.self.now) c.args.p c.args.q c.args.o c.args.work group c.group-group.ensures (omega arith) none)
 
-pub returns-then-not-is-order : goal.returns-then-not-is-order
-returns-then-not-is-order g c =
+pub returns-then-not-is_order : goal.returns-then-not-is_order
+returns-then-not-is_order g c =
     let m = g.P.Product.meaning in
     let group = group_of c.group-group.result in
     let some = orders_some (span m group) c.orders.result (c.orders.ensures ∙ orders_at c.span-k.ensures) c.if-orders-eq0.false in
-    let past = ltb-false c.args.o c.orders.result (ap (ltb c.args.o) c.orders.ensures ∙ sym c.is-order.ensures ∙ c.if-not-is-order.true) in
+    let past = ltb-false c.args.o c.orders.result (ap (ltb c.args.o) c.orders.ensures ∙ sym c.is_order.ensures ∙ c.if-not-is_order.true) in
     (refl, λ test. no_order m test (held_of c.args.self.now) c.args.p c.args.q c.args.o c.args.work group c.group-group.ensures (omega arith) some.0 (omega (arith, some.1, past)))
 
-pub returns-then-not-has-work : goal.returns-then-not-has-work
-returns-then-not-has-work g c =
+pub returns-then-not-has_work : goal.returns-then-not-has_work
+returns-then-not-has_work g c =
     let m = g.P.Product.meaning in
     let s = c.args.self.now in
     let group = group_of c.group-group.result in
     let some = orders_some (span m group) c.orders.result (c.orders.ensures ∙ orders_at c.span-k.ensures) c.if-orders-eq0.false in
-    let numbered = ltb-true c.args.o c.orders.result (ap (ltb c.args.o) c.orders.ensures ∙ sym c.is-order.ensures ∙ c.if-not-is-order.false) in
-    let short = supplied_short m s c.args.work c.has-work.result c.has-work.ensures c.if-not-has-work.true in
+    let numbered = ltb-true c.args.o c.orders.result (ap (ltb c.args.o) c.orders.ensures ∙ sym c.is_order.ensures ∙ c.if-not-is_order.false) in
+    let short = supplied_short m s c.args.work c.has_work.result c.has_work.ensures c.if-not-has_work.true in
     let long = length-take-le s.count s.places.now (omega arith) in
     (refl, λ test. no_work m test (held_of s) c.args.p c.args.q c.args.o c.args.work group c.group-group.ensures (omega arith) some.0 (omega (arith, some.1, numbered)) (omega arith))
 
@@ -50,9 +50,9 @@ returns g c =
     let s = c.args.self.now in
     let group = group_of c.group-group.result in
     let some = orders_some (span m group) c.orders.result (c.orders.ensures ∙ orders_at c.span-k.ensures) c.if-orders-eq0.false in
-    let numbered = ltb-true c.args.o c.orders.result (ap (ltb c.args.o) c.orders.ensures ∙ sym c.is-order.ensures ∙ c.if-not-is-order.false) in
+    let numbered = ltb-true c.args.o c.orders.result (ap (ltb c.args.o) c.orders.ensures ∙ sym c.is_order.ensures ∙ c.if-not-is_order.false) in
     let below : c.args.o < factorial (span m group) = omega (arith, some.1, numbered) in
-    let enough = supplied_enough m s c.args.work c.has-work.result c.has-work.ensures c.if-not-has-work.false in
+    let enough = supplied_enough m s c.args.work c.has_work.result c.has_work.ensures c.if-not-has_work.false in
     let long = length-take-le s.count s.places.now (omega arith) in (
       is_group m (used s) c.args.p c.args.q c.args.o group c.group-group.ensures (omega arith) some.0 below,
       enough,

@@ -9,15 +9,15 @@ loop-k-init g c =
     let xs = c.args.self.now.places.now in
     (0, omega arith, paste_none xs c.args.i (drop (suc c.args.i) xs), refl, refl)
 
-pub move-up-requires : goal.move-up-requires
-move-up-requires g c = (omega arith, omega arith)
+pub move_up-requires : goal.move_up-requires
+move_up-requires g c = (omega arith, omega arith)
 
 pub loop-k-preserved : goal.loop-k-preserved
 loop-k-preserved g c =
     let xs = c.args.self.now.places.now in
     let ys = c.loop-k.self.places.now in
     let inv = c.loop-k.invariant in
-    let done = c.move-up.ensures in
+    let done = c.move_up.ensures in
     let long : length ys ≡ length xs = ap length inv.2 ∙ shifted_length xs c.args.i inv.0 (omega arith) in
     let (x, read) = some_at ys (c.loop-k.k + 1) (omega arith) in (
       inv.0 + 1,

@@ -18,24 +18,24 @@ loop-p-preserved-then-q-self g c =
     let inv = c.loop-p.invariant in
     (walk_row g.P.Product.meaning (g.C.Criterion.keeps c.args.criterion.now) _ c.args.budget c.args.self.now c.loop-p.self (rows_of c.loop-p.tally) c.loop-p.p c.loop-p.q c.loop-p.o c.loop-p.invariant.0 c.loop-p-test.true c.if-q-self.true, inv.1, inv.2)
 
-pub loop-p-preserved-then-not-is-order : goal.loop-p-preserved-then-not-is-order
-loop-p-preserved-then-not-is-order g c =
+pub loop-p-preserved-then-not-is_order : goal.loop-p-preserved-then-not-is_order
+loop-p-preserved-then-not-is_order g c =
     let inv = c.loop-p.invariant in
-    (walk_pair g.P.Product.meaning (g.C.Criterion.keeps c.args.criterion.now) _ c.args.budget c.args.self.now c.loop-p.self (rows_of c.loop-p.tally) c.loop-p.p c.loop-p.q c.loop-p.o c.loop-p.invariant.0 (group_of c.group-group.result) c.group-group.ensures c.span-k.result (cond (spans c.span-k.result) (factorial c.span-k.result) 0) c.span-k.ensures refl (ltb-false _ _ (sym c.is-order.ensures ∙ c.if-not-is-order.true)), inv.1, inv.2)
+    (walk_pair g.P.Product.meaning (g.C.Criterion.keeps c.args.criterion.now) _ c.args.budget c.args.self.now c.loop-p.self (rows_of c.loop-p.tally) c.loop-p.p c.loop-p.q c.loop-p.o c.loop-p.invariant.0 (group_of c.group-group.result) c.group-group.ensures c.span-k.result (cond (spans c.span-k.result) (factorial c.span-k.result) 0) c.span-k.ensures refl (ltb-false _ _ (sym c.is_order.ensures ∙ c.if-not-is_order.true)), inv.1, inv.2)
 
 pub returns-then-tried-budget : goal.returns-then-tried-budget
 returns-then-tried-budget g c =
     let inv = c.loop-p.invariant in
-    let e = walk_spent g.P.Product.meaning (g.C.Criterion.keeps c.args.criterion.now) _ c.args.budget c.args.self.now c.loop-p.self (rows_of c.loop-p.tally) c.loop-p.p c.loop-p.q c.loop-p.o c.loop-p.invariant.0 (group_of c.group-group.result) c.group-group.ensures c.span-k.result (cond (spans c.span-k.result) (factorial c.span-k.result) 0) c.span-k.ensures refl (ltb-true _ _ (sym c.is-order.ensures ∙ c.if-not-is-order.false)) (omega (arith, c.tried.ensures)) in
+    let e = walk_spent g.P.Product.meaning (g.C.Criterion.keeps c.args.criterion.now) _ c.args.budget c.args.self.now c.loop-p.self (rows_of c.loop-p.tally) c.loop-p.p c.loop-p.q c.loop-p.o c.loop-p.invariant.0 (group_of c.group-group.result) c.group-group.ensures c.span-k.result (cond (spans c.span-k.result) (factorial c.span-k.result) 0) c.span-k.ensures refl (ltb-true _ _ (sym c.is_order.ensures ∙ c.if-not-is_order.false)) (omega (arith, c.tried.ensures)) in
     walk_ends g.P.Product.meaning (g.C.Criterion.keeps c.args.criterion.now) c.args.budget c.args.self.now c.loop-p.self c.args.tally.now c.loop-p.tally c.args.work.now c.loop-p.work (inv.1, inv.2) Spent c.loop-p.p c.loop-p.q c.loop-p.o inv.0 e
 
 pub attempt-kept-requires : goal.attempt-kept-requires
 attempt-kept-requires g c =
-    record { group = walk_group g.P.Product.meaning (g.C.Criterion.keeps c.args.criterion.now) _ c.args.budget c.args.self.now c.loop-p.self (rows_of c.loop-p.tally) c.loop-p.p c.loop-p.q c.loop-p.o c.loop-p.invariant.0 (group_of c.group-group.result) c.group-group.ensures c.span-k.result (cond (spans c.span-k.result) (factorial c.span-k.result) 0) c.span-k.ensures refl (ltb-true _ _ (sym c.is-order.ensures ∙ c.if-not-is-order.false)); work = omega (arith, c.loop-p.invariant.0.few, c.loop-p.auto.work, c.requires.work) }
+    record { group = walk_group g.P.Product.meaning (g.C.Criterion.keeps c.args.criterion.now) _ c.args.budget c.args.self.now c.loop-p.self (rows_of c.loop-p.tally) c.loop-p.p c.loop-p.q c.loop-p.o c.loop-p.invariant.0 (group_of c.group-group.result) c.group-group.ensures c.span-k.result (cond (spans c.span-k.result) (factorial c.span-k.result) 0) c.span-k.ensures refl (ltb-true _ _ (sym c.is_order.ensures ∙ c.if-not-is_order.false)); work = omega (arith, c.loop-p.invariant.0.few, c.loop-p.auto.work, c.requires.work) }
 
 pub note-requires : goal.note-requires
 note-requires g c =
-    record { distance = walk_span g.P.Product.meaning (g.C.Criterion.keeps c.args.criterion.now) _ c.args.budget c.args.self.now c.loop-p.self (rows_of c.loop-p.tally) c.loop-p.p c.loop-p.q c.loop-p.o c.loop-p.invariant.0 (group_of c.group-group.result) c.group-group.ensures c.span-k.result (cond (spans c.span-k.result) (factorial c.span-k.result) 0) c.span-k.ensures refl (ltb-true _ _ (sym c.is-order.ensures ∙ c.if-not-is-order.false)); room = (c.loop-p.invariant.0.sensible, omega (arith, c.tried.ensures)) }
+    record { distance = walk_span g.P.Product.meaning (g.C.Criterion.keeps c.args.criterion.now) _ c.args.budget c.args.self.now c.loop-p.self (rows_of c.loop-p.tally) c.loop-p.p c.loop-p.q c.loop-p.o c.loop-p.invariant.0 (group_of c.group-group.result) c.group-group.ensures c.span-k.result (cond (spans c.span-k.result) (factorial c.span-k.result) 0) c.span-k.ensures refl (ltb-true _ _ (sym c.is_order.ensures ∙ c.if-not-is_order.false)); room = (c.loop-p.invariant.0.sensible, omega (arith, c.tried.ensures)) }
 
 pub returns-then-kept : goal.returns-then-kept
 returns-then-kept g c =
@@ -43,10 +43,10 @@ returns-then-kept g c =
     let tried = c.attempt-kept.ensures in
     let d = c.attempt-kept.new.self in
     let t = rows_of c.note.new.self in
-    let near = walk_span g.P.Product.meaning (g.C.Criterion.keeps c.args.criterion.now) _ c.args.budget c.args.self.now c.loop-p.self (rows_of c.loop-p.tally) c.loop-p.p c.loop-p.q c.loop-p.o c.loop-p.invariant.0 (group_of c.group-group.result) c.group-group.ensures c.span-k.result (cond (spans c.span-k.result) (factorial c.span-k.result) 0) c.span-k.ensures refl (ltb-true _ _ (sym c.is-order.ensures ∙ c.if-not-is-order.false)) in
+    let near = walk_span g.P.Product.meaning (g.C.Criterion.keeps c.args.criterion.now) _ c.args.budget c.args.self.now c.loop-p.self (rows_of c.loop-p.tally) c.loop-p.p c.loop-p.q c.loop-p.o c.loop-p.invariant.0 (group_of c.group-group.result) c.group-group.ensures c.span-k.result (cond (spans c.span-k.result) (factorial c.span-k.result) 0) c.span-k.ensures refl (ltb-true _ _ (sym c.is_order.ensures ∙ c.if-not-is_order.false)) in
     let one = noted_tried c.span-k.result c.attempt-kept.result (rows_of c.loop-p.tally) near.0 near.1 in
     let noted-is = c.note.ensures ∙ ap (λ b. noted c.span-k.result b (rows_of c.loop-p.tally)) c.if-kept.true in
-    let w = walk_kept g.P.Product.meaning (g.C.Criterion.keeps c.args.criterion.now) _ c.args.budget c.args.self.now c.loop-p.self (rows_of c.loop-p.tally) c.loop-p.p c.loop-p.q c.loop-p.o c.loop-p.invariant.0 (group_of c.group-group.result) c.group-group.ensures c.span-k.result (cond (spans c.span-k.result) (factorial c.span-k.result) 0) c.span-k.ensures refl (ltb-true _ _ (sym c.is-order.ensures ∙ c.if-not-is-order.false)) (omega (arith, c.tried.ensures)) (g.met.C.Criterion.strict c.args.criterion.now) d t noted-is (sym tried.verdict ∙ c.if-kept.true) (tried.kept c.if-kept.true) tried.size tried.lender in
+    let w = walk_kept g.P.Product.meaning (g.C.Criterion.keeps c.args.criterion.now) _ c.args.budget c.args.self.now c.loop-p.self (rows_of c.loop-p.tally) c.loop-p.p c.loop-p.q c.loop-p.o c.loop-p.invariant.0 (group_of c.group-group.result) c.group-group.ensures c.span-k.result (cond (spans c.span-k.result) (factorial c.span-k.result) 0) c.span-k.ensures refl (ltb-true _ _ (sym c.is_order.ensures ∙ c.if-not-is_order.false)) (omega (arith, c.tried.ensures)) (g.met.C.Criterion.strict c.args.criterion.now) d t noted-is (sym tried.verdict ∙ c.if-kept.true) (tried.kept c.if-kept.true) tried.size tried.lender in
     let more = ap all_tried c.note.ensures in
     (walk_goes g.P.Product.meaning (g.C.Criterion.keeps c.args.criterion.now) c.args.budget c.args.self.now d c.args.tally.now c.note.new.self c.args.work.now c.attempt-kept.new.work (omega (arith, inv.1), λ z. absurd (omega (arith, inv.1))) w, omega (arith, inv.1), w.within)
 
@@ -55,10 +55,10 @@ loop-p-preserved g c =
     let inv = c.loop-p.invariant in
     let tried = c.attempt-kept.ensures in
     let d = c.attempt-kept.new.self in
-    let near = walk_span g.P.Product.meaning (g.C.Criterion.keeps c.args.criterion.now) _ c.args.budget c.args.self.now c.loop-p.self (rows_of c.loop-p.tally) c.loop-p.p c.loop-p.q c.loop-p.o c.loop-p.invariant.0 (group_of c.group-group.result) c.group-group.ensures c.span-k.result (cond (spans c.span-k.result) (factorial c.span-k.result) 0) c.span-k.ensures refl (ltb-true _ _ (sym c.is-order.ensures ∙ c.if-not-is-order.false)) in
+    let near = walk_span g.P.Product.meaning (g.C.Criterion.keeps c.args.criterion.now) _ c.args.budget c.args.self.now c.loop-p.self (rows_of c.loop-p.tally) c.loop-p.p c.loop-p.q c.loop-p.o c.loop-p.invariant.0 (group_of c.group-group.result) c.group-group.ensures c.span-k.result (cond (spans c.span-k.result) (factorial c.span-k.result) 0) c.span-k.ensures refl (ltb-true _ _ (sym c.is_order.ensures ∙ c.if-not-is_order.false)) in
     let one = noted_tried c.span-k.result c.attempt-kept.result (rows_of c.loop-p.tally) near.0 near.1 in
     let noted-is = c.note.ensures ∙ ap (λ b. noted c.span-k.result b (rows_of c.loop-p.tally)) c.if-kept.false in (
-      walk_on g.P.Product.meaning (g.C.Criterion.keeps c.args.criterion.now) _ c.args.budget c.args.self.now c.loop-p.self (rows_of c.loop-p.tally) c.loop-p.p c.loop-p.q c.loop-p.o c.loop-p.invariant.0 (group_of c.group-group.result) c.group-group.ensures c.span-k.result (cond (spans c.span-k.result) (factorial c.span-k.result) 0) c.span-k.ensures refl (ltb-true _ _ (sym c.is-order.ensures ∙ c.if-not-is-order.false)) (omega (arith, c.tried.ensures)) d (rows_of c.note.new.self) (tried.same c.if-kept.false) noted-is (sym tried.verdict ∙ c.if-kept.false),
+      walk_on g.P.Product.meaning (g.C.Criterion.keeps c.args.criterion.now) _ c.args.budget c.args.self.now c.loop-p.self (rows_of c.loop-p.tally) c.loop-p.p c.loop-p.q c.loop-p.o c.loop-p.invariant.0 (group_of c.group-group.result) c.group-group.ensures c.span-k.result (cond (spans c.span-k.result) (factorial c.span-k.result) 0) c.span-k.ensures refl (ltb-true _ _ (sym c.is_order.ensures ∙ c.if-not-is_order.false)) (omega (arith, c.tried.ensures)) d (rows_of c.note.new.self) (tried.same c.if-kept.false) noted-is (sym tried.verdict ∙ c.if-kept.false),
       omega (arith, inv.1, ap all_tried c.note.ensures),
       λ z. absurd (omega (arith, inv.1, ap all_tried c.note.ensures)),
     )

@@ -9,10 +9,10 @@ loop-i-preserved g c =
     elim c.if-differs.branch [
       | then-differs w ↦
           (let more = more_yes m c.args.self c.args.other c.loop-i.i w.if-differs.ensures in
-          (omega (arith, w.count_is), omega (arith, w.count_is)))
+          (omega (arith, w.count-is), omega (arith, w.count-is)))
       | else-differs w ↦
           (let more = more_no m c.args.self c.args.other c.loop-i.i w.if-differs.ensures in
-          (omega (arith, w.count_is), omega (arith, w.count_is)))
+          (omega (arith, w.count-is), omega (arith, w.count-is)))
     ]
 
 pub returns : goal.returns

@@ -1,0 +1,101 @@
+// A small sheet, and each refusal once.
+use crate::state::{Blank, Headed, WriteRefusal};
+use crate::whole::write_sheet;
+use cube::{Cube, CubeRefusal, Form};
+use std::test::Fail;
+
+const SMALL: [u8; 45] = *b".i 3\n.o 2\n.type esop\n.p 2\n01- 10\n--1 11\n.e\n??";
+
+// The rows of SMALL.
+fn products() -> Result<[Cube; 2], CubeRefusal> {
+    let first = Cube::new(0xffff_ffff, 0xffff_ffff, 1)?;
+    let second = Cube::new(0xffff_ffff, 0xffff_ffff, 3)?;
+    Ok([
+        first
+            .with_form(0, Form::Negative)
+            .with_form(1, Form::Positive),
+        second.with_form(2, Form::Positive),
+    ])
+}
+
+#[test]
+fn small_sheet_by_states(rt: HostRuntime) -> Result<(), Fail> {
+    let [first, second] = products()?;
+    let mut memory = [b'?'; 45];
+    let Ok(sheet) = Blank::new().head(&mut memory, 3, 2, 2) else {
+        return Err(Fail::new("no heading"));
+    };
+    let Ok(sheet) = sheet.row(&mut memory, &first) else {
+        return Err(Fail::new("no first row"));
+    };
+    let Ok(sheet) = sheet.row(&mut memory, &second) else {
+        return Err(Fail::new("no second row"));
+    };
+    let Ok(closed) = sheet.end(&mut memory) else {
+        return Err(Fail::new("no end"));
+    };
+    assert_eq!(rt; closed.len(), 43);
+    assert_eq!(rt; memory, SMALL);
+    Ok(())
+}
+
+#[test]
+fn small_sheet_at_once(rt: HostRuntime) -> Result<(), Fail> {
+    let mut memory = [b'?'; 45];
+    assert_eq!(rt; write_sheet(&mut memory, 3, 2, &products()?), Ok(43));
+    assert_eq!(rt; memory, SMALL);
+    Ok(())
+}
+
+// The number of the refusal, or 0 where the call was accepted.
+fn refused<S: Drop, T: Drop>(answer: Result<S, (T, WriteRefusal)>) -> u8 {
+    match answer {
+        Ok(_) => 0,
+        Err((_, why)) => why.number(),
+    }
+}
+
+// A sheet of one input and one output, headed in 26 bytes.
+fn headed(memory: &mut [u8], rows: u32) -> Result<Headed, Fail> {
+    match Blank::new().head(memory, 1, 1, rows) {
+        Ok(sheet) => Ok(sheet),
+        Err(_) => Err(Fail::new("no heading")),
+    }
+}
+
+#[test]
+fn heading_refusals(rt: HostRuntime) {
+    let mut memory = [b'?'; 25];
+    assert_eq!(rt; refused(Blank::new().head(&mut memory, 33, 1, 0)), 27);
+    assert_eq!(rt; refused(Blank::new().head(&mut memory, 1, 1, 0)), 28);
+    assert_eq!(rt; memory, [b'?'; 25]);
+}
+
+#[test]
+fn row_refusals(rt: HostRuntime) -> Result<(), Fail> {
+    let [first, _] = products()?;
+    let mut memory = [b'?'; 26];
+    let sheet = headed(&mut memory, 0)?;
+    let before = memory;
+    assert_eq!(rt; refused(sheet.row(&mut memory, &first)), 30);
+    assert_eq!(rt; memory, before);
+    let sheet = headed(&mut memory, 1)?;
+    let before = memory;
+    assert_eq!(rt; refused(sheet.row(&mut memory, &first)), 29);
+    assert_eq!(rt; memory, before);
+    Ok(())
+}
+
+#[test]
+fn end_refusals(rt: HostRuntime) -> Result<(), Fail> {
+    let mut memory = [b'?'; 26];
+    let sheet = headed(&mut memory, 1)?;
+    let before = memory;
+    assert_eq!(rt; refused(sheet.end(&mut memory)), 31);
+    assert_eq!(rt; memory, before);
+    let sheet = headed(&mut memory, 0)?;
+    let mut shorter = [b'?'; 4];
+    assert_eq!(rt; refused(sheet.end(&mut shorter)), 28);
+    assert_eq!(rt; shorter, [b'?'; 4]);
+    Ok(())
+}
