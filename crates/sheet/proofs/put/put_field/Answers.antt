@@ -12,5 +12,5 @@ put-requires c = let e = field_length c.args.letter c.args.n in omega arith
 pub returns : goal.returns
 returns c =
     put_put (field c.args.letter c.args.n) (10 ∷ []) (omega arith)
-    (put_put (46 ∷ c.args.letter ∷ 32 ∷ []) (decimal c.args.n) (omega arith) c.put_value.ensures c.put_number-feed.ensures)
+    (put_put (46 ∷ c.args.letter ∷ 32 ∷ []) (decimal c.args.n) (omega arith) c.put-value.ensures c.put_number-feed.ensures)
     c.put.ensures

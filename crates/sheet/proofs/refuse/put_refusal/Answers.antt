@@ -17,5 +17,5 @@ pub returns : goal.returns
 unfolding refusal_text
 returns c =
     put_put (codes "refused " ++ decimal c.args.number) (10 ∷ []) (omega arith)
-    (put_put (codes "refused ") (decimal c.args.number) (omega arith) c.put_value.ensures c.put_number-feed.ensures)
+    (put_put (codes "refused ") (decimal c.args.number) (omega arith) c.put-value.ensures c.put_number-feed.ensures)
     c.put.ensures

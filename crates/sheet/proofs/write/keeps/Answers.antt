@@ -9,9 +9,9 @@ loop-j-init c = everywhere_none (keeps_at c.args.inputs c.args.outputs c.args.pr
 pub loop-j-preserved : goal.loop-j-preserved
 loop-j-preserved c =
     everywhere_more (keeps_at c.args.inputs c.args.outputs c.args.product.now) c.loop-j.j c.loop-j.invariant
-    (sym c.row_keeps_at.ensures ∙ c.if-not-keeps_at.false)
+    (sym c.keeps_at.ensures ∙ c.if-not-keeps_at.false)
 
 pub returns-then-not-keeps_at : goal.returns-then-not-keeps_at
 returns-then-not-keeps_at c =
     sym (everywhere_fails (keeps_at c.args.inputs c.args.outputs c.args.product.now) 32 c.loop-j.j c.loop-j-test.true
-    (sym c.row_keeps_at.ensures ∙ c.if-not-keeps_at.true))
+    (sym c.keeps_at.ensures ∙ c.if-not-keeps_at.true))
