@@ -2,7 +2,7 @@
 ghost use Rattle.std.specs.Prelude.{◌≡◌, ◌+◌, ◌<◌, ◌≤◌, true, false, length, if◌then◌else◌, nat_lt};
 ghost use Rattle.esop.specs.Kind.{distance};
 ghost use Rattle.esop.specs.Entering.{total_weight};
-ghost use Rattle.esop.specs.Linking.{factorial as orders-of, link, span as Span-of, without, IsGroup, result, says};
+ghost use Rattle.esop.specs.Linking.{factorial as orders_of, link, span as span_of, without, IsGroup, result as made, says};
 ghost use Rattle.esop.specs.Running.{spans};
 ghost use Rattle.esop.specs.History.{replaced};
 ghost use Rattle.cover.specs.Holding.{used, spare, held_of};
@@ -25,7 +25,7 @@ pub(crate) struct Group<P> {
 
 fn factorial(n: usize) -> usize
     requires { n ≤ 4 }
-    ensures* { λ r. ⌜ r ≡ orders-of n ⌝ }
+    ensures { result ≡ orders_of n }
 {
     match n {
         0 => 1,
@@ -38,7 +38,7 @@ fn factorial(n: usize) -> usize
 
 // How many groups a pair at distance `k` makes: one for each order of its positions, at distance 2 to 4.
 pub(crate) fn orders(k: usize) -> usize
-    ensures* { λ r. ⌜ r ≡ (if spans k then orders-of k else 0) ⌝ }
+    ensures { result ≡ (if spans k then orders_of k else 0) }
 {
     if 2 <= k && k <= 4 { factorial(k) } else { 0 }
 }
@@ -46,7 +46,7 @@ pub(crate) fn orders(k: usize) -> usize
 // What the products weigh together.
 fn weigh<P: Product>(products: &[P]) -> u64
     requires { length products.now ≤ 962 }
-    ensures* { λ r. ⌜ r ≡ total_weight P.meaning products.now ⌝ }
+    ensures { result ≡ total_weight P.meaning products.now }
 {
     let mut sum: u64 = 0;
     for x in products {
@@ -58,9 +58,9 @@ fn weigh<P: Product>(products: &[P]) -> u64
 // A cover of the products, in the first places of the memory lent.
 fn copied<'w, P: Product, const N: usize>(work: &'w mut [P], products: &[P]) -> Cover<'w, P, N>
     requires { (length products.now ≤ length work.old) × (length products.now ≤ N) }
-    ensures* list { λ r. ⌜ used r ≡ products.now ⌝ }
-    ensures* size { λ r. ⌜ length r.places.now ≡ length work.old ⌝ }
-    ensures* lender { λ r. ⌜ r.places.ghost_name ≡ work.entry.ghost_name ⌝ }
+    ensures list { used result ≡ products.now }
+    ensures size { length result.places.now ≡ length work.old }
+    ensures lender { result.places.ghost_name ≡ work.entry.ghost_name }
 {
     let n = products.len();
     for i in 0..n {
@@ -74,7 +74,7 @@ fn copied<'w, P: Product, const N: usize>(work: &'w mut [P], products: &[P]) -> 
 
 // Whether `o` is the order number of a group of a pair at distance `k`.
 pub(crate) fn is_order(o: usize, k: usize) -> bool
-    ensures* { λ r. ⌜ r ≡ nat_lt o (if spans k then orders-of k else 0) ⌝ }
+    ensures { result ≡ nat_lt o (if spans k then orders_of k else 0) }
 {
     o < orders(k)
 }
@@ -82,7 +82,7 @@ pub(crate) fn is_order(o: usize, k: usize) -> bool
 impl<P: Product> Group<P> {
     // The distance of the two products.
     pub(crate) fn span(self) -> usize
-        ensures* { λ r. ⌜ r ≡ Span-of P.meaning (group_of self) ⌝ }
+        ensures { result ≡ span_of P.meaning (group_of self) }
     {
         self.a.distance(self.b)
     }
@@ -92,7 +92,7 @@ impl<'a, P: Product, const N: usize> Cover<'a, P, N> {
     // The group of the products at two places, and an order number.
     pub(crate) fn group(&self, first: usize, second: usize, number: usize) -> Group<P>
         requires { (first < second) × (second < self.now.count) }
-        ensures* { λ r. ⌜ Reads (used self.now) first second number (group_of r) ⌝ }
+        ensures { Reads (used self.now) first second number (group_of result) }
     {
         let products = self.products();
         Group {
@@ -107,10 +107,10 @@ impl<'a, P: Product, const N: usize> Cover<'a, P, N> {
     // Takes the two products of a group out.
     fn take_out(&mut self, group: Group<P>)
         requires { (group.first < group.second) × (group.second < self.old.count) }
-        ensures* list { λ _. ⌜ used self.new ≡ without (used self.old) (group_of group) ⌝ }
-        ensures* two { λ _. ⌜ self.new.count + 2 ≡ self.old.count ⌝ }
-        ensures* size { λ _. ⌜ length self.new.places.now ≡ length self.old.places.now ⌝ }
-        ensures* lender { λ _. ⌜ self.new.places.ghost_name ≡ self.old.places.ghost_name ⌝ }
+        ensures list { used self.new ≡ without (used self.old) (group_of group) }
+        ensures two { self.new.count + 2 ≡ self.old.count }
+        ensures size { length self.new.places.now ≡ length self.old.places.now }
+        ensures lender { self.new.places.ghost_name ≡ self.old.places.ghost_name }
     {
         self.remove(group.second);
         self.remove(group.first);
@@ -119,9 +119,9 @@ impl<'a, P: Product, const N: usize> Cover<'a, P, N> {
     // Makes `products` those of the cover, in the same memory.
     fn adopt(&mut self, products: &[P])
         requires { length products.now ≤ self.old.count }
-        ensures* held { λ _. ⌜ held_of self.new ≡ replaced (held_of self.old) products.now ⌝ }
-        ensures* size { λ _. ⌜ length self.new.places.now ≡ length self.old.places.now ⌝ }
-        ensures* lender { λ _. ⌜ self.new.places.ghost_name ≡ self.old.places.ghost_name ⌝ }
+        ensures held { held_of self.new ≡ replaced (held_of self.old) products.now }
+        ensures size { length self.new.places.now ≡ length self.old.places.now }
+        ensures lender { self.new.places.ghost_name ≡ self.old.places.ghost_name }
     {
         let n = products.len();
         for i in 0..n {
@@ -135,9 +135,9 @@ impl<'a, P: Product, const N: usize> Cover<'a, P, N> {
     // mind.
     fn enter_link(&mut self, a: P, b: P, o: usize)
         requires few { distance P.meaning a b ≤ 4 }
-        requires order { o < orders-of (distance P.meaning a b) }
+        requires order { o < orders_of (distance P.meaning a b) }
         requires places { distance P.meaning a b ≤ spare self.old }
-        ensures* { λ _. ⌜ Entries P.meaning (link P.meaning a b o) self.old self.new ⌝ }
+        ensures { Entries P.meaning (link P.meaning a b o) self.old self.new }
     {
         let mut t = a;
         let mut rest = o;
@@ -159,8 +159,8 @@ impl<'a, P: Product> Cover<'a, P, MOST> {
     fn tried<'w>(&self, work: &'w mut [P], group: Group<P>) -> Cover<'w, P, WORK>
         requires group { IsGroup P.meaning (used self.now) (group_of group) }
         requires work { self.now.count + 2 ≤ length work.old }
-        ensures* list { λ r. ⌜ used r ≡ result P.meaning (used self.now) (group_of group) ⌝ }
-        ensures* lender { λ r. ⌜ r.places.ghost_name ≡ work.entry.ghost_name ⌝ }
+        ensures list { used result ≡ made P.meaning (used self.now) (group_of group) }
+        ensures lender { result.places.ghost_name ≡ work.entry.ghost_name }
     {
         let mut list = copied::<P, WORK>(work, self.products());
         list.take_out(group);
@@ -175,9 +175,9 @@ impl<'a, P: Product> Cover<'a, P, MOST> {
         list: &Cover<'_, P, WORK>,
         group: Group<P>,
     ) -> bool
-        requires { used list.now ≡ result P.meaning (used self.now) (group_of group) }
-        ensures* verdict { λ r. ⌜ r ≡ says P.meaning (C.keeps criterion.now) (used self.now) (group_of group) ⌝ }
-        ensures* fewer { λ r. ⌜ (r ≡ true → length (used list.now) ≤ self.now.count) ⌝ }
+        requires { used list.now ≡ made P.meaning (used self.now) (group_of group) }
+        ensures verdict { result ≡ says P.meaning (C.keeps criterion.now) (used self.now) (group_of group) }
+        ensures fewer { result ≡ true → length (used list.now) ≤ self.now.count }
     {
         let before = Size {
             count: self.count,
@@ -199,11 +199,11 @@ impl<'a, P: Product> Cover<'a, P, MOST> {
     ) -> bool
         requires group { IsGroup P.meaning (used self.old) (group_of group) }
         requires work { self.old.count + 2 ≤ length work.old }
-        ensures* verdict { λ r. ⌜ r ≡ says P.meaning (C.keeps criterion.now) (used self.old) (group_of group) ⌝ }
-        ensures* kept { λ r. ⌜ (r ≡ true → held_of self.new ≡ replaced (held_of self.old) (result P.meaning (used self.old) (group_of group))) ⌝ }
-        ensures* same { λ r. ⌜ (r ≡ false → self.new ≡ self.old) ⌝ }
-        ensures* size { λ _. ⌜ length self.new.places.now ≡ length self.old.places.now ⌝ }
-        ensures* lender { λ _. ⌜ self.new.places.ghost_name ≡ self.old.places.ghost_name ⌝ }
+        ensures verdict { result ≡ says P.meaning (C.keeps criterion.now) (used self.old) (group_of group) }
+        ensures kept { result ≡ true → held_of self.new ≡ replaced (held_of self.old) (made P.meaning (used self.old) (group_of group)) }
+        ensures same { result ≡ false → self.new ≡ self.old }
+        ensures size { length self.new.places.now ≡ length self.old.places.now }
+        ensures lender { self.new.places.ghost_name ≡ self.old.places.ghost_name }
     {
         let list = self.tried(work, group);
         if !self.approves(criterion, &list, group) {

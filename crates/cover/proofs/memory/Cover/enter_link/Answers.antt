@@ -9,11 +9,11 @@ use Rattle.cover.proofs.Settling.{one_count, one_entered, one_spared}
 use Rattle.cover.proofs.Judging.{position_there}
 use Rattle.cover.proofs.memory.Cover.enter_link.Goals as goal
 
-pub nonzero-div-rest : goal.nonzero-div-rest
-nonzero-div-rest g c = omega (arith, factorial_pos (c.loop-k.k - 1), c.factorial-f.ensures)
+pub nonzero_div-rest : goal.nonzero_div-rest
+nonzero_div-rest g c = omega (arith, factorial_pos (c.loop-k.k - 1), c.factorial-f.ensures)
 
-pub nonzero-rem-rest : goal.nonzero-rem-rest
-nonzero-rem-rest g c = omega (arith, factorial_pos (c.loop-k.k - 1), c.factorial-f.ensures)
+pub nonzero_rem-rest : goal.nonzero_rem-rest
+nonzero_rem-rest g c = omega (arith, factorial_pos (c.loop-k.k - 1), c.factorial-f.ensures)
 
 pub unwrap-d-requires : goal.unwrap-d-requires
 unwrap-d-requires g c =

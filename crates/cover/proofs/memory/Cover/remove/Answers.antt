@@ -27,8 +27,8 @@ loop-k-preserved g c =
       done.lender ∙ inv.4,
     )
 
-pub invariant-of-self : goal.invariant-of-self
-invariant-of-self g c = ((omega arith, omega arith), tt)
+pub invariant_of-self : goal.invariant_of-self
+invariant_of-self g c = record { ok = (omega arith, omega arith) }
 
 pub returns : goal.returns
 returns g c =

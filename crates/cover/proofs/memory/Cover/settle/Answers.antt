@@ -3,8 +3,8 @@ use Rattle.cover.specs.Holding.{used, free}
 use Rattle.cover.proofs.Settling.{entered_alone, spared_alone, found_below, settled_same, settled_join, settled_end}
 use Rattle.cover.proofs.memory.Cover.settle.Goals as goal
 
-pub offset-bounds-self-i : goal.offset-bounds-self-i
-offset-bounds-self-i g c =
+pub offset_bounds-self-i : goal.offset_bounds-self-i
+offset_bounds-self-i g c =
     let place = found_below g.P.Product.meaning c.loop-i.p c.loop-i.self.places.now c.loop-i.self.count (omega arith) c.in-Some.i c.in-Some.ensures in
     let within : c.in-Some.i < length c.loop-i.self.places.now = omega arith in
     search rules
@@ -18,15 +18,15 @@ pub remove-requires : goal.remove-requires
 remove-requires g c =
     (omega arith, found_below g.P.Product.meaning c.loop-i.p c.loop-i.self.places.now c.loop-i.self.count (omega arith) c.in-Some.i c.in-Some.ensures)
 
-pub returns-in-default-difference : goal.returns-in-default-difference
-returns-in-default-difference g c =
+pub returns-in_default-difference : goal.returns-in_default-difference
+returns-in_default-difference g c =
     let m = g.P.Product.meaning in
     let xs = c.loop-i.self.places.now in
     let i = c.in-Some.i in
     let inv = c.loop-i.invariant in
     let d = c.remove.new.self in
     let us = used c.args.self.now in
-    let done = settled_same m c.loop-i.p xs c.loop-i.self.count (omega arith) i c.in-Some.ensures (get_or xs i c.index-self-i.result) (ap (get_or xs i) c.index-self-i.is) (used d) (free d) c.remove.ensures.list c.remove.ensures.rest c.in-default-difference.ensures in
+    let done = settled_same m c.loop-i.p xs c.loop-i.self.count (omega arith) i c.in-Some.ensures (get_or xs i c.index-self-i.result) (ap (get_or xs i) c.index-self-i.is) (used d) (free d) c.remove.ensures.list c.remove.ensures.rest c.in_default-difference.ensures in
     record {
       list = done.0 ∙ inv.3 ∙ entered_alone m c.args.p us;
       rest = done.1 ∙ inv.4 ∙ spared_alone m c.args.p us (free c.args.self.now);
@@ -56,7 +56,7 @@ returns g c =
     let n = c.loop-i.self.count in
     let inv = c.loop-i.invariant in
     let us = used c.args.self.now in
-    let end = settled_end m c.loop-i.p xs n (omega arith) (omega arith) c.in-default.ensures in
+    let end = settled_end m c.loop-i.p xs n (omega arith) (omega arith) c.in_default.ensures in
     record {
       list = end.0 ∙ inv.3 ∙ entered_alone m c.args.p us;
       rest = end.1 ∙ inv.4 ∙ spared_alone m c.args.p us (free c.args.self.now);
