@@ -52,10 +52,10 @@ fn split(line: &[u8]) -> Line<'_>
 fn word(rest: &[u8]) -> Line<'_>
     ensures { shown result ≡ word_of rest.now }
 {
-    if rest == b"type esop" {
+    if rest == b"type esop".as_slice() {
         return Line::Type;
     }
-    if rest == b"e" {
+    if rest == b"e".as_slice() {
         Line::End
     } else {
         Line::Dotted

@@ -4,8 +4,8 @@ use Rattle.expander.specs.Printing.{inputs_among}
 use Rattle.expander.proofs.SheetLaws.{accepted, refused, of_products, of_refusal}
 use Rattle.expander.proofs.call.sheet_with.Goals as goal
 
-pub slice-bounds-put_sheet-end : goal.slice-bounds-put_sheet-end
-slice-bounds-put_sheet-end c =
+pub slice_bounds-put_sheet-end : goal.slice_bounds-put_sheet-end
+slice_bounds-put_sheet-end c =
     (accepted _ c.in-Ok.count _ c.expand.new.list c.in-Ok.ensures.answer c.in-Ok.ensures.list).within
 
 pub returns-in-Ok : goal.returns-in-Ok

@@ -13,8 +13,8 @@ row_below c =
     let m = storing_more _ _ _ _ _ _ _ c.in-Product.ensures.0 f.1 c.loop-product.invariant.0 in
     (omega (arith, m.0), omega (arith, m.0))
 
-pub offset-bounds-list-row : goal.offset-bounds-list-row
-offset-bounds-list-row c = let b = row_below c in omega arith
+pub offset_bounds-list-row : goal.offset_bounds-list-row
+offset_bounds-list-row c = let b = row_below c in omega arith
 
 pub bounds-list-row : goal.bounds-list-row
 bounds-list-row c = let b = row_below c in omega arith

@@ -15,13 +15,13 @@ loop-i-init c =
           ∙ ap (λ (n : ℕ). Some (n, n)) (sym e),
     )
 
-pub returns-in-default : goal.returns-in-default
-returns-in-default c =
-    sym (forms_bad _ c.args.part.now (c.loop-i.i - 1) (omega (arith, c.loop-i.invariant.0)) (sym c.form_at_index.ensures ∙ c.in-default.is))
+pub returns-in_default : goal.returns-in_default
+returns-in_default c =
+    sym (forms_bad _ c.args.part.now (c.loop-i.i - 1) (omega (arith, c.loop-i.invariant.0)) (sym c.form_at.ensures ∙ c.in_default.is))
 
 pub loop-i-preserved : goal.loop-i-preserved
 loop-i-preserved c =
-    let is = sym c.form_at_index.ensures ∙ c.in-Some.is in
+    let is = sym c.form_at.ensures ∙ c.in-Some.is in
     let small = form_bits_below (get_or c.args.part.now (c.loop-i.i - 1) 0) c.in-Some.zero c.in-Some.one is in
     let before = c.loop-i.invariant.0 in (
       omega arith,

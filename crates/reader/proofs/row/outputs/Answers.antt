@@ -12,9 +12,9 @@ loop-i-init c =
       at_drop_all driven_word c.args.part.now (length c.args.part.now) (le_refl _),
     )
 
-pub returns-in-default : goal.returns-in-default
-returns-in-default c =
-    sym (driven_bad c.args.part.now (c.loop-i.i - 1) (omega (arith, c.loop-i.invariant.0)) (sym c.driven.ensures ∙ c.in-default.is))
+pub returns-in_default : goal.returns-in_default
+returns-in_default c =
+    sym (driven_bad c.args.part.now (c.loop-i.i - 1) (omega (arith, c.loop-i.invariant.0)) (sym c.driven.ensures ∙ c.in_default.is))
 
 pub loop-i-preserved : goal.loop-i-preserved
 loop-i-preserved c =
