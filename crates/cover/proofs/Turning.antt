@@ -6,11 +6,11 @@ use Rattle.std.specs.List.{between, AllByRecursion as All}
 use Rattle.esop.specs.Kind.{Meaning, Laws}
 use Rattle.esop.specs.Criterion.{Test, Strict}
 use Rattle.esop.specs.History as history
-use Rattle.esop.specs.History.{Held, Reply, Turn, turn_of, memory, opened, served, turns, left, Kept, admitted, linked, ran_by}
+use Rattle.esop.specs.History.{Held, Turn, turn_of, memory, opened, served, turns, left, admitted, linked, ran_by}
 use Rattle.esop.proofs.History.{histories_keep}
 use Rattle.cover.specs.Holding.{used, free, held_of}
 use Rattle.cover.specs.Calls.{Replied}
-use Rattle.cover.specs.Serving.{asked, said, turns_of, end_of, Serves, Untouched}
+use Rattle.cover.specs.Serving.{asked, said, call_asked, call_said, turns_of, end_of, Serves, Untouched}
 use Rattle.cover.specs.declared.memory.Cover.{Cover}
 use Rattle.cover.specs.declared.serve.Request.{Request}
 use Rattle.cover.specs.declared.serve.Request.TheVariants.{Enter, EnterAll, Link, Run}
@@ -95,6 +95,7 @@ module _ {P Y : Type 0} (m : Meaning P) (keeps : Y → Test) where
       pub long : length now-answers ≡ length answers
       pub held : held_of c ≡ end_of m keeps places list work (take i requests)
       pub answered : map said (take i now-answers) ≡ map (λ t. t.answer) (turns_of m keeps places list work (take i requests))
+      pub calls : map call_said (take i now-answers) ≡ map call_asked (take i requests)
       pub others : drop (length requests) now-answers ≡ drop (length requests) answers
 
     pub turned_start : (c : Cover P N) → c.count ≡ 0 → c.places.now ≡ places → Turned c answers 0
@@ -104,12 +105,13 @@ module _ {P Y : Type 0} (m : Meaning P) (keeps : Y → Test) where
           long = refl;
           held = ap₂ (λ n xs. record { used = take n xs; free = drop n xs }) none all ∙ sym (ap (left (opened places)) (no_turns (opened places)));
           answered = sym (ap (map (λ t. t.answer)) (no_turns (opened places)));
+          calls = refl;
           others = refl;
         }
 
     -- one more request is answered
-    pub turned_more : (c d : Cover P N) (ys : List Answer) (i : ℕ) (r : Request P Y) (a : Answer) (w : ℕ) → Turned c ys i → length requests ≤ length answers → i < length requests → r ≡ get_or requests i r → w ≡ work → Replied (served m keeps (held_of c) (asked list w r)) (said a) d → Turned d (set ys i a) (i + 1)
-    turned_more c d ys i r a w t room l read same reply =
+    pub turned_more : (c d : Cover P N) (ys : List Answer) (i : ℕ) (r : Request P Y) (a : Answer) (w : ℕ) → Turned c ys i → length requests ≤ length answers → i < length requests → r ≡ get_or requests i r → w ≡ work → Replied (served m keeps (held_of c) (asked list w r)) (said a) d → call_said a ≡ call_asked r → Turned d (set ys i a) (i + 1)
+    turned_more c d ys i r a w t room l read same reply call =
         let done = turns_of m keeps places list work (take i requests) in
         let asked_more : map (asked list work) (take (i + 1) requests) ≡ map (asked list work) (take i requests) ++ asked list work r ∷ [] =
         ap (map (asked list work)) (take_more requests i r l ∙ ap (λ x. take i requests ++ x ∷ []) (sym read)) ∙ map_push (asked list work) (take i requests) r
@@ -126,6 +128,10 @@ module _ {P Y : Type 0} (m : Meaning P) (keeps : Y → Test) where
               ∙ map_push said (take i ys) a
               ∙ ap₂ (λ zs z. zs ++ z ∷ []) t.answered (reply.answer ∙ ap (λ z. z.answer) at)
               ∙ sym (ap (map (λ x. x.answer)) more ∙ map_push (λ x. x.answer) done (turn_of m keeps (left (opened places) done) (asked list work r)));
+          calls = ap (map call_said) (take_more_set ys i a (omega (arith, t.long)))
+              ∙ map_push call_said (take i ys) a
+              ∙ ap₂ (λ zs z. zs ++ z ∷ []) t.calls call
+              ∙ sym (ap (map call_asked) (take_more requests i r l ∙ ap (λ x. take i requests ++ x ∷ []) (sym read)) ∙ map_push call_asked (take i requests) r);
           others = drop-set-lt (length requests) ys i a l ∙ t.others;
         }
 
@@ -136,6 +142,7 @@ module _ {P Y : Type 0} (m : Meaning P) (keeps : Y → Test) where
         let held = t.held ∙ ap (λ rs. end_of m keeps places list work rs) all in
         record {
           answered = ap (λ n. map said (take n ys)) (sym end) ∙ t.answered ∙ ap (λ rs. map (λ x. x.answer) (turns_of m keeps places list work rs)) all;
+          calls = ap (λ n. map call_said (take n ys)) (sym end) ∙ t.calls ∙ ap (map call_asked) all;
           others = t.others;
           count = count_of c (end_of m keeps places list work requests).used (ap (λ h. h.used) held);
           held = is ∙ sym (take-append-drop c.count c.places.now) ∙ ap memory held;

@@ -26,6 +26,21 @@ said (Entered r) = entry_answer r
 said (Linked r) = link_answer r
 said (Ran r) = run_answer r
 
+-- the call that a request asks for, and the call that gave an answer
+pub data Call : Type 0 where
+  entry linking running : Call
+
+abbrev pub call_asked : {P Y : Type 0} → Request P Y → Call
+call_asked (Enter p) = entry
+call_asked (EnterAll from to) = entry
+call_asked (Link y p q o) = linking
+call_asked (Run y budget) = running
+
+abbrev pub call_said : Answer → Call
+call_said (Entered r) = entry
+call_said (Linked r) = linking
+call_said (Ran r) = running
+
 -- no group was tried for the request, so that the work memory is as it was
 abbrev pub Untouched : Answer → Type 0
 Untouched (Entered r) = Unit {0}
@@ -44,6 +59,8 @@ end_of m keeps places list work requests = left (opened places) (turns_of m keep
 pub record Serves {P Y : Type 0} (m : Meaning P) (keeps : Y → Test) (places list : List P) (requests : List (Request P Y)) (work : ℕ) (answers : List Answer) (n : ℕ) (places-after : List P) (answers-after : List Answer) : Type 0 where
   -- the answers are those of the turns
   pub answered : map said (take (length requests) answers-after) ≡ map (λ t. t.answer) (turns_of m keeps places list work requests)
+  -- each is of the call that was asked for
+  pub calls : map call_said (take (length requests) answers-after) ≡ map call_asked requests
   -- and the places for answers that are left over are as they were
   pub others : drop (length requests) answers-after ≡ drop (length requests) answers
   pub count : n ≡ length (end_of m keeps places list work requests).used

@@ -1,6 +1,6 @@
 // The record of a run.
 ghost use Rattle.std.specs.Prelude.{◌≡◌, ◌+◌, ◌^◌, ◌<◌, ◌≤◌};
-ghost use Rattle.esop.specs.Running.{all_tried};
+ghost use Rattle.esop.specs.Running.{all_kept, all_tried};
 ghost use Rattle.cover.specs.Recording.{rows_of, noted, blank, Sensible};
 
 // How many groups were tried, and of how many the link was kept.
@@ -30,6 +30,13 @@ impl Record {
         ensures { result ≡ all_tried (rows_of self.now) }
     {
         self.rows[0].tried as u64 + self.rows[1].tried as u64 + self.rows[2].tried as u64
+    }
+
+    // How many links were kept at all.
+    pub fn kept(&self) -> u64
+        ensures { result ≡ all_kept (rows_of self.now) }
+    {
+        self.rows[0].kept as u64 + self.rows[1].kept as u64 + self.rows[2].kept as u64
     }
 
     // One more group was tried, at distance `k`.

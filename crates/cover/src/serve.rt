@@ -4,7 +4,7 @@ ghost use Rattle.std.specs.List.{between, AllByRecursion as All};
 ghost use Rattle.esop.specs.History.{served};
 ghost use Rattle.cover.specs.Holding.{held_of};
 ghost use Rattle.cover.specs.Calls.{Replied};
-ghost use Rattle.cover.specs.Serving.{asked, said, Serves, Untouched};
+ghost use Rattle.cover.specs.Serving.{asked, said, call_asked, call_said, Serves, Untouched};
 
 use crate::entry::EnterRefusal;
 use crate::link::LinkRefusal;
@@ -62,6 +62,7 @@ impl<'a, P: Product> Cover<'a, P, MOST> {
     // Makes the call that a request asks for.
     fn obey<C: Criterion>(&mut self, list: &[P], request: &Request<P, C>, work: &mut [P]) -> Answer
         ensures reply { Replied (served P.meaning C.keeps (held_of self.old) (asked list.now (length work.old) request.now)) (said result) self.new }
+        ensures call { call_said result ≡ call_asked request.now }
         ensures work { Untouched result → work.new ≡ work.old }
         ensures size { length self.new.places.now ≡ length self.old.places.now }
         ensures lender { self.new.places.ghost_name ≡ self.old.places.ghost_name }

@@ -13,3 +13,4 @@ pub mod Groups
 pub mod Cursor
 pub mod Running
 pub mod History
+pub mod Lasting

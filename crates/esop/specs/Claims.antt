@@ -6,6 +6,7 @@ use Rattle.esop.specs.Entering.{bit, covering, Apart, seek, arrived, entered, sp
 use Rattle.esop.specs.Linking.{factorial, arranged, occurs, Before, Ascending, link, Group, IsGroup, without, result}
 use Rattle.esop.specs.Running.{Outcome, run, kept_of, trial_rows, all_tried, KeptLinks, Runs}
 use Rattle.esop.specs.History.{Request, opened, turns, Kept, SomeCriterion}
+use Rattle.esop.specs.Lasting.{ValuesLast, HistoriesLast, AllHistoriesLast}
 
 -- what entering p into the cover c keeps
 pub record Enters {P : Type 0} (m : Meaning P) (p : P) (c : List P) : Type 0 where
@@ -72,3 +73,7 @@ pub record CoverLaws {P Y : Type 0} (m : Meaning P) (keeps : Y → Test) : Type 
   pub running : (y : Y) → RunningKeeps m (keeps y)
   pub histories : HistoriesKeep m keeps
   pub all_histories : AllHistoriesKeep m
+  -- what holds of the values of all products entered, and is kept by joins, lasts
+  pub lasting : ValuesLast m
+  pub lasting_histories : HistoriesLast m keeps
+  pub lasting_all_histories : AllHistoriesLast m

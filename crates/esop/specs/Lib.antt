@@ -6,5 +6,6 @@ pub mod Linking
 pub mod Running
 pub mod Cursor
 pub mod History
+pub mod Lasting
 pub mod Claims
 pub mod Strategies

@@ -95,6 +95,9 @@ trial_rows m ts = record { two = row_of m 2 ts; three = row_of m 3 ts; four = ro
 abbrev pub all_tried : Rows → ℕ
 all_tried s = s.two.tried + s.three.tried + s.four.tried
 
+abbrev pub all_kept : Rows → ℕ
+all_kept s = s.two.kept + s.three.kept + s.four.kept
+
 -- the trials lead from c to d: each is of a group of the cover then standing, and its link is kept exactly when the criterion says yes
 abbrev pub Tries : {P : Type 0} → Meaning P → Test → List P → List (Trial P) → List P → Type 0
 Tries m test c [] d = c ≡ d

@@ -1,4 +1,4 @@
-use Rattle.std.proofs.Common.{◌≡◌, ◌≤◌, length, take, sym, refl, ap, ◌∙◌, subst, arith, rules}
+use Rattle.std.proofs.Common.{◌≡◌, length, take, refl, ◌∙◌, subst, arith, rules}
 use Rattle.std.specs.List.{AllByRecursion as All}
 use Rattle.cover.specs.Serving.{Untouched}
 use Rattle.cover.proofs.Turning.{turned_start, turned_more, turned_all, untouched_more}
@@ -13,7 +13,7 @@ pub loop-i-preserved : goal.loop-i-preserved
 loop-i-preserved g c =
     let inv = c.loop-i.invariant in
     let done = c.obey.ensures in (
-      turned_more g.P.Product.meaning g.C.Criterion.keeps c.open-cover.result.places.now c.args.list.now c.args.requests.now (length c.args.work.now) c.args.answers.now c.loop-i.cover c.obey.new.self c.loop-i.answers c.loop-i.i c.index-requests-i.result c.obey.result (length c.loop-i.work) inv.0 c.requires c.loop-i-test.true c.index-requests-i.is c.loop-i.auto.work done.reply,
+      turned_more g.P.Product.meaning g.C.Criterion.keeps c.open-cover.result.places.now c.args.list.now c.args.requests.now (length c.args.work.now) c.args.answers.now c.loop-i.cover c.obey.new.self c.loop-i.answers c.loop-i.i c.index-requests-i.result c.obey.result (length c.loop-i.work) inv.0 c.requires c.loop-i-test.true c.index-requests-i.is c.loop-i.auto.work done.reply done.call,
       done.lender ∙ inv.1,
       λ u. let both = untouched_more c.loop-i.answers c.loop-i.i c.obey.result (omega (arith, inv.0.long)) u in done.work both.1 ∙ inv.2 both.0,
     )
