@@ -1,2 +1,4 @@
 pub mod PutLaws
+pub mod RunLaws
 pub mod SheetLaws
+pub mod TurnLaws

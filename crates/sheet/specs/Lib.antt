@@ -1,3 +1,5 @@
+pub mod InTurn
 pub mod Refusing
+pub mod Reporting
 pub mod Text
 pub mod Writing
