@@ -8,3 +8,4 @@ pub mod StoreLaws
 pub mod SpellLaws
 pub mod AcceptedLaws
 pub mod BackLaws
+pub mod CallLaws

@@ -1,14 +1,14 @@
 -- Storing the products of a text, one after another.
 -- Assumes nothing.
-use Rattle.std.proofs.Common.{◌≡◌, ℕ, ◌+◌, ◌<◌, ◌≤◌, true, List, [], ◌∷◌, ◌++◌, length, get_or, take, drop, set, Some, Ok, Err, Result, sym, refl, ap, ◌∙◌, subst, ap₂, arith}
+use Rattle.std.proofs.Common.{◌≡◌, ℕ, ◌+◌, ◌<◌, ◌≤◌, true, false, leb, List, [], ◌∷◌, ◌++◌, length, get_or, take, drop, set, Some, Ok, Err, Result, sym, refl, ap, ◌∙◌, subst, ap₂, ⊎_elim, arith}
 use Rattle.std.proofs.lemmas.List.{drop_more, take_more, take_all, set_at, length-take-le, length-drop, append_assoc}
-use Rattle.std.proofs.lemmas.Bool.{false≢true}
+use Rattle.std.proofs.lemmas.Bool.{cond-true, cond-false, cases_Bool, leb-true, false≢true}
 use Rattle.cube.specs.declared.cube.Cube.{Cube}
 use Rattle.reader.specs.declared.state.Heading.{Heading}
 use Rattle.reader.specs.declared.state.Refused.{Refused}
 use Rattle.reader.specs.declared.state.State.TheVariants.{Inputs}
 use Rattle.reader.specs.Lines.{pieces}
-use Rattle.reader.specs.Reading.{Sheet, added, verdict, stored}
+use Rattle.reader.specs.Reading.{Sheet, added, verdict, read, stored}
 use Rattle.reader.specs.Turns.{closed, accepted}
 use Rattle.reader.proofs.StepLaws.{Right, Then, judged_right}
 
@@ -23,6 +23,16 @@ few_by places text (Err e) r = (omega arith, omega arith)
 
 pub few : (places : ℕ) (text : List ℕ) → (length (products_of (verdict places text)) ≤ 960) × (length (products_of (verdict places text)) ≤ places)
 few places text = few_by places text (verdict places text) (judged_right places Inputs 1 (pieces text) tt)
+
+-- a text that is accepted is short enough to be judged
+pub read_judged : (places : ℕ) (text : List ℕ) → accepted (read places text) ≡ true
+    → (length text ≤ 64000) × (accepted (verdict places text) ≡ true) × (read places text ≡ verdict places text)
+read_judged places text e =
+    ⊎_elim
+    (λ (t : leb (length text) 64000 ≡ true).
+    let same : read places text ≡ verdict places text = cond-true _ _ _ t in (leb-true (length text) 64000 t, ap accepted (sym same) ∙ e, same))
+    (λ (f : leb (length text) 64000 ≡ false). absurd (false≢true (ap accepted (sym (cond-false _ _ _ f)) ∙ e)))
+    (cases_Bool (leb (length text) 64000))
 
 -- of what a text comes to, v, the first k products are stored over the list `old`, and `rest` is still to be read
 pub record Storing (v : Result Sheet Refused) (old new : List Cube) (k : ℕ) (rest : Result Sheet Refused) : Type 0 where

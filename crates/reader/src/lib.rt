@@ -10,5 +10,5 @@ pub mod state;
 mod tests;
 mod turn;
 
-pub use read::read_sheet;
+pub use read::{judge_sheet, read_sheet};
 pub use state::{Heading, ReadRefusal, Refused};

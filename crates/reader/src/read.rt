@@ -1,6 +1,6 @@
 // Reading a whole text.
 ghost use Rattle.std.specs.Prelude.{◌≡◌, ℕ, ◌≤◌, true, List, length};
-ghost use Rattle.reader.specs.Back.{Spells, ReadsBack};
+ghost use Rattle.reader.specs.Back.{CallsReadBack, ReadsBack, Spells};
 ghost use Rattle.reader.specs.Reading.{verdict, read, told, stored};
 ghost use Rattle.reader.specs.Turns.{accepted};
 
@@ -30,8 +30,8 @@ fn judge(text: &[u8], places: usize) -> Result<Heading, Refused>
 
 // Stores the products of a text that was judged right.
 fn store(text: &[u8], list: &mut [Cube])
-    requires { (length text.now ≤ 64000) × (accepted (verdict (length list.old) text.now) ≡ true) }
-    ensures { list.new ≡ stored list.old (verdict (length list.old) text.now) }
+    requires { accepted (read (length list.old) text.now) ≡ true }
+    ensures { list.new ≡ stored list.old (read (length list.old) text.now) }
 {
     let mut reader = Reader {
         text,
@@ -60,8 +60,25 @@ fn longest() -> usize
     ensures value { result ≡ 64000 }
     ensures spells { (places : ℕ) (bytes : List ℕ) → Spells places bytes }
     ensures back { (places : ℕ) → ReadsBack places }
+    ensures calls { (places : ℕ) → CallsReadBack places }
 {
     64_000
+}
+
+// Judges a text that is to be read into a list of so many places, and answers the numbers of its heading.
+pub fn judge_sheet(text: &[u8], places: usize) -> Result<Heading, Refused>
+    ensures answer { result ≡ told (read places text.now) }
+    ensures spells { Spells places text.now }
+    ensures back { ReadsBack places }
+    ensures calls { CallsReadBack places }
+{
+    if text.len() > longest() {
+        return Err(Refused {
+            why: ReadRefusal::TooLong,
+            line: 0,
+        });
+    }
+    judge(text, places)
 }
 
 // Reads a text into the list from its start on, and answers the numbers of its heading. All of the text is judged
@@ -71,14 +88,9 @@ pub fn read_sheet(text: &[u8], list: &mut [Cube]) -> Result<Heading, Refused>
     ensures products { list.new ≡ stored list.old (read (length list.old) text.now) }
     ensures spells { Spells (length list.old) text.now }
     ensures back { ReadsBack (length list.old) }
+    ensures calls { CallsReadBack (length list.old) }
 {
-    if text.len() > longest() {
-        return Err(Refused {
-            why: ReadRefusal::TooLong,
-            line: 0,
-        });
-    }
-    let heading = judge(text, list.len())?;
+    let heading = judge_sheet(text, list.len())?;
     store(text, list);
     Ok(heading)
 }

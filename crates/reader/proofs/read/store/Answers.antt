@@ -1,10 +1,24 @@
-use Rattle.std.proofs.Common.{◌<◌, length, ap, ◌∙◌, arith}
-use Rattle.reader.proofs.StoreLaws.{few, storing_more, storing_same, storing_all, storing_as}
+use Rattle.std.proofs.Common.{◌<◌, length, sym, refl, ap, ◌∙◌, arith}
+use Rattle.reader.specs.Reading.{stored}
+use Rattle.reader.proofs.StoreLaws.{few, read_judged, storing_start, storing_more, storing_same, storing_all, storing_as}
 use Rattle.reader.proofs.read.store.Goals as goal
 use Rattle.reader.proofs.read.store.Goals.{in-Passed, in-Product}
 
 pub returns-in-Over : goal.returns-in-Over
-returns-in-Over c = storing_all _ _ _ _ _ _ c.requires.1 c.in-Over.ensures c.loop-product.invariant.0
+returns-in-Over c =
+    let q = read_judged (length c.args.list.now) c.args.text.now c.requires in
+    storing_all _ _ _ _ _ _ q.1 c.in-Over.ensures c.loop-product.invariant.0 ∙ ap (stored c.args.list.now) (sym q.2)
+
+pub loop-product-init : goal.loop-product-init
+loop-product-init c =
+    let q = read_judged (length c.args.list.now) c.args.text.now c.requires in
+    (storing_start _ _ q.1, refl, omega arith, omega arith)
+
+pub overflow_add-line : goal.overflow_add-line
+overflow_add-line c =
+    let q = read_judged (length c.args.list.now) c.args.text.now c.requires in
+    let h = c.loop-product.invariant in
+    omega (arith, q.0, h.2, h.3)
 
 -- the row that is stored is one of those that the text has
 row_below : (c : goal.In-Product) → (c.loop-product.row < 960) × (c.loop-product.row < length c.args.list.now)
