@@ -1,6 +1,7 @@
 -- The rows of a text that is accepted spell its products.
 -- Assumes nothing.
 use Rattle.std.proofs.Common.{◌≡◌, ℕ, suc, ◌+◌, ◌-◌, ◌^◌, ◌<◌, ◌≤◌, true, false, not, ◌&&◌, ◌||◌, eqb, ltb, leb, List, [], ◌∷◌, ◌++◌, map, length, get_or, take, drop, Some, None, Ok, Err, codes, Option, Result, sym, refl, ap, ◌∙◌, subst, ap₂, ⊎_elim, arith}
+use Rattle.std.proofs.Math.Pow.{pow_mono}
 use Rattle.std.proofs.lemmas.List.{take-append-drop, drop_more}
 use Rattle.std.proofs.lemmas.Bool.{cond-true, cond-false, cond_both, cases_lt, cases_Bool, lt-ltb, le-leb, ltb-true, leb-true, eqb-true, eq-eqb, and_from, and_parts, or_left, or_right}
 use Rattle.std.specs.Str.{bytes_eq}
@@ -17,6 +18,7 @@ use Rattle.reader.specs.declared.state.ReadRefusal.{ReadRefusal}
 use Rattle.reader.specs.declared.state.Refused.{Refused}
 use Rattle.reader.specs.declared.state.State.TheVariants.{Inputs}
 use Rattle.reader.specs.Accepted.{row_lines, Accepted}
+use Rattle.reader.specs.Back.{all_words}
 use Rattle.reader.specs.Lines.{Shown, skipped, number, kind, end, dotted, row, plain, pieces, up_to, row_of, word_of, is_letter, dotted_of, class_of}
 use Rattle.reader.specs.Reading.{Sheet, verdict, read}
 use Rattle.reader.specs.Rows.{form_words, driven_word, made_row, row_of_words, as_long, product_of}
@@ -167,6 +169,22 @@ rows_keep h (l ∷ ls) [] r = absurd r
 rows_keep h (l ∷ ls) (c ∷ cs) r =
     and_from (keeps_to h.inputs h.outputs c) _ (row_keeps_to h.inputs h.outputs _ _ c (row_words h l c r.0)) (rows_keep h ls cs r.1)
 
+-- its words of outputs have no bit past the characters
+row_word : (i o : ℕ) (is os : List ℕ) (c : Cube) → WordsAre i o is os c → c.outputs < 2 ^ 32
+row_word i o is os c w =
+    let p = long_parts i o is os w.long in
+    let few : length os ≤ 32 = omega arith in
+    let lt = w.word.within in
+    let le : 2 ^ length os ≤ 2 ^ 32 = pow_mono few in
+    omega arith
+
+rows_words : (h : Heading) (ls : List (List ℕ)) (cs : List Cube) → AreRows h ls cs → all_words cs ≡ true
+rows_words h [] [] r = refl
+rows_words h [] (c ∷ cs) r = absurd r
+rows_words h (l ∷ ls) [] r = absurd r
+rows_words h (l ∷ ls) (c ∷ cs) r =
+    and_from (ltb c.outputs (2 ^ 32)) _ (lt-ltb c.outputs (2 ^ 32) (row_word h.inputs h.outputs _ _ c (row_words h l c r.0))) (rows_words h ls cs r.1)
+
 right_spelled : (places : ℕ) (text : List ℕ) (v : Result Sheet Refused) → Then (Right places Inputs (pieces text)) v → Accepted places text v
 right_spelled places text (Ok s) r =
     let h = s.heading in
@@ -186,3 +204,17 @@ pub read_spelled : (places : ℕ) (text : List ℕ) → Accepted places text (re
 read_spelled places text =
     cond_both (leb (length text) 64000) _ _ (Accepted places text)
     (λ _. right_spelled places text (verdict places text) (judged_right places Inputs 1 (pieces text) tt)) (λ _. tt)
+
+-- the words of outputs of the products of a text that is accepted have 32 bits
+abbrev pub Worded : Result Sheet Refused → Type 0
+Worded (Ok s) = all_words s.products ≡ true
+Worded (Err e) = Unit {0}
+
+right_worded : (places : ℕ) (text : List ℕ) (v : Result Sheet Refused) → Then (Right places Inputs (pieces text)) v → Worded v
+right_worded places text (Ok s) r = rows_words s.heading (row_lines (pieces text)) s.products r.rows
+right_worded places text (Err e) r = tt
+
+pub read_worded : (places : ℕ) (text : List ℕ) → Worded (read places text)
+read_worded places text =
+    cond_both (leb (length text) 64000) _ _ Worded
+    (λ _. right_worded places text (verdict places text) (judged_right places Inputs 1 (pieces text) tt)) (λ _. tt)

@@ -78,14 +78,14 @@ pub record Inner (c : ℕ) : Type 0 where
   pub comment : eqb c 35 ≡ false
   pub dot : eqb c 46 ≡ false
 
-abbrev Each : (ℕ → Type 0) → List ℕ → Type 0
+abbrev pub Each : (ℕ → Type 0) → List ℕ → Type 0
 Each P [] = Unit {0}
 Each P (c ∷ cs) = P c × Each P cs
 
-abbrev NoFeed : ℕ → Type 0
+abbrev pub NoFeed : ℕ → Type 0
 NoFeed c = eqb c 10 ≡ false
 
-each_append : (P : ℕ → Type 0) (s t : List ℕ) → Each P s → Each P t → Each P (s ++ t)
+pub each_append : (P : ℕ → Type 0) (s t : List ℕ) → Each P s → Each P t → Each P (s ++ t)
 each_append P [] t a b = b
 each_append P (c ∷ cs) t a b = (a.0, each_append P cs t a.1 b)
 
@@ -122,7 +122,7 @@ pieces_line : (l rest : List ℕ) → Each NoFeed l → pieces (l ++ 10 ∷ rest
 pieces_line [] rest h = refl
 pieces_line (c ∷ cs) rest h = cond-false _ _ _ h.0 ∙ ap (push c) (pieces_line cs rest h.1)
 
-judged_line : (k : ℕ) (s : State) (n : ℕ) (l rest : List ℕ) (x : Step) → Each NoFeed l → step k s (class_of l) ≡ x
+pub judged_line : (k : ℕ) (s : State) (n : ℕ) (l rest : List ℕ) (x : Step) → Each NoFeed l → step k s (class_of l) ≡ x
     → judged k s n (pieces (line l ++ rest)) ≡ then x n (λ t. judged k t (n + 1) (pieces rest))
 unfolding judged
 judged_line k s n l rest x h e =
@@ -151,7 +151,7 @@ class_row [] os h e = absurd (omega arith)
 class_row (c ∷ cs) os h e = cond-false _ _ _ e.0.comment ∙ cond-false _ _ _ e.0.dot ∙ row_parts (c ∷ cs) os e
 
 -- what a product says past the inputs and outputs of the heading
-absent_bits : (a b : ℕ) → a < 2 → b < 2 → absent (form_at a b) ≡ true → (a ≡ 1) × (b ≡ 1)
+pub absent_bits : (a b : ℕ) → a < 2 → b < 2 → absent (form_at a b) ≡ true → (a ≡ 1) × (b ≡ 1)
 absent_bits a b ha hb =
     by_bits (λ x y. absent (form_at x y) ≡ true → (x ≡ 1) × (y ≡ 1)) (λ e. absurd (false≢true e)) (λ e. absurd (false≢true e)) (λ e. absurd (false≢true e)) (λ e. (refl, refl)) a b ha hb
 
@@ -257,7 +257,7 @@ pub record Ranges (i o n : ℕ) : Type 0 where
   pub outputs : (1 ≤ o) × (o ≤ 32)
   pub rows : n ≤ 960
 
-ranges : (i o n : ℕ) → in_range i o n ≡ true → Ranges i o n
+pub ranges : (i o n : ℕ) → in_range i o n ≡ true → Ranges i o n
 ranges i o n e =
     let p = and_parts (leb 1 i && leb i 32 && leb 1 o && leb o 32) (leb n 960) e in
     let q = and_parts (leb 1 i && leb i 32 && leb 1 o) (leb o 32) p.0 in
@@ -269,25 +269,26 @@ ranges i o n e =
       rows = leb-true _ _ p.1;
     }
 
-verdict_back : (places i o : ℕ) (cs : List Cube) → Ranges i o (length cs) → all_keep i o cs ≡ true → all_words cs ≡ true → length cs ≤ places
-    → verdict places (sheet_text i o cs) ≡ Ok (record { heading = heading_of i o (length cs); products = cs })
-verdict_back places i o cs r keep fits room =
-    let n = length cs in
+-- from any line on
+pub sheet_judged : (places n i o : ℕ) (cs : List Cube) → Ranges i o (length cs) → all_keep i o cs ≡ true → all_words cs ≡ true → length cs ≤ places
+    → judged places state.Inputs n (pieces (sheet_text i o cs)) ≡ Ok (record { heading = heading_of i o (length cs); products = cs })
+sheet_judged places n i o cs r keep fits room =
+    let k = length cs in
     let few = r.rows in
     let rest = flat_map (row_text i o) cs ++ end_text in
-    ap (λ t. judged places state.Inputs 1 (pieces t)) (text_lines i o cs)
-    ∙ judged_line places state.Inputs 1 (field 105 i) _ _ (field_feed 105 i refl)
+    ap (λ t. judged places state.Inputs n (pieces t)) (text_lines i o cs)
+    ∙ judged_line places state.Inputs n (field 105 i) _ _ (field_feed 105 i refl)
     (ap (λ x. numbered x (λ k. state.Outputs k)) (number_back 1 32 i r.inputs.0 r.inputs.1 (omega (arith, r.inputs.1))))
-    ∙ judged_line places (state.Outputs i) 2 (field 111 o) _ _ (field_feed 111 o refl)
+    ∙ judged_line places (state.Outputs i) (n + 1) (field 111 o) _ _ (field_feed 111 o refl)
     (ap (λ x. numbered x (λ k. state.Type i k)) (number_back 1 32 o r.outputs.0 r.outputs.1 (omega (arith, r.outputs.1))))
-    ∙ judged_line places (state.Type i o) 3 type_text (line (field 112 n) ++ rest) _ type_feed refl
-    ∙ judged_line places (state.Count i o) 4 (field 112 n) rest _ (field_feed 112 n refl)
-    (ap (λ x. numbered (placed places x) (λ k. state.Rows (heading_of i o k) k)) (number_back 0 960 n (omega arith) few (omega arith))
-    ∙ ap (λ x. numbered x (λ k. state.Rows (heading_of i o k) k)) (cond-true _ _ _ (le-leb n places room)))
-    ∙ rows_back places (heading_of i o n) r.inputs.0 r.inputs.1 r.outputs.1 5 cs keep fits
+    ∙ judged_line places (state.Type i o) (n + 1 + 1) type_text (line (field 112 k) ++ rest) _ type_feed refl
+    ∙ judged_line places (state.Count i o) (n + 1 + 1 + 1) (field 112 k) rest _ (field_feed 112 k refl)
+    (ap (λ x. numbered (placed places x) (λ k. state.Rows (heading_of i o k) k)) (number_back 0 960 k (omega arith) few (omega arith))
+    ∙ ap (λ x. numbered x (λ k. state.Rows (heading_of i o k) k)) (cond-true _ _ _ (le-leb k places room)))
+    ∙ rows_back places (heading_of i o k) r.inputs.0 r.inputs.1 r.outputs.1 (n + 1 + 1 + 1 + 1) cs keep fits
 
 -- the length of a sheet
-sheet_short : (i o : ℕ) (cs : List Cube) → Ranges i o (length cs) → length (sheet_text i o cs) ≤ 64000
+pub sheet_short : (i o : ℕ) (cs : List Cube) → Ranges i o (length cs) → length (sheet_text i o cs) ≤ 63500
 sheet_short i o cs r =
     let n = length cs in
     let a = sheet_length i o cs in
@@ -304,4 +305,4 @@ sheet_short i o cs r =
 pub reads_back : (places : ℕ) → ReadsBack places
 reads_back places i o cs range keep fits room =
     let r = ranges i o (length cs) range in
-    cond-true _ _ _ (le-leb (length (sheet_text i o cs)) 64000 (sheet_short i o cs r)) ∙ verdict_back places i o cs r keep fits room
+    cond-true _ _ _ (le-leb (length (sheet_text i o cs)) 64000 (let s = sheet_short i o cs r in omega arith)) ∙ sheet_judged places 1 i o cs r keep fits room
