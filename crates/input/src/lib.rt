@@ -1,4 +1,6 @@
 // Standard input or a file into memory.
+#![tactic(auto)]
+
 ghost use Rattle.std.specs.Prelude.{◌≤◌, length, IfOk};
 
 use std::io;

@@ -1,4 +1,6 @@
 // Shrinks the sheets of data/, one after another in the order of their names, and prints the printout of each.
+#![tactic(auto)]
+
 use input::fill;
 use minimizer::print_minimized;
 use std::fs::File;

@@ -1,5 +1,7 @@
 // Reads a sheet from standard input, and prints what its two runs did and the sheet that they left, or the line of a
 // refusal.
+#![tactic(auto)]
+
 use input::fill;
 use minimizer::print_minimized;
 use std::io;

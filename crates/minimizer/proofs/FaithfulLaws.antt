@@ -1,9 +1,9 @@
 -- What is printed for a sheet is read back as the products that stand for its rows.
 -- Assumes nothing.
-use Rattle.std.proofs.Common.{◌≡◌, ℕ, ◌+◌, ◌<◌, ◌≤◌, Bool, true, false, cond, List, [], ◌∷◌, ◌++◌, length, take, Some, None, Ok, Err, codes, decimal, Option, Result, sym, refl, ap, ◌∙◌, arith, lit<, length-append}
-use Rattle.std.proofs.lemmas.Fmt.{length-decimal-le}
+use Rattle.std.proofs.Common.{◌≡◌, ℕ, ◌+◌, ◌%◌, ◌^◌, ◌<◌, ◌≤◌, Bool, true, false, cond, List, [], ◌∷◌, ◌++◌, length, take, Some, None, Ok, Err, codes, decimal, Option, Result, sym, refl, ap, ◌∙◌, arith, lit<, length-append}
+use Rattle.std.proofs.lemmas.Fmt.{decimal_by_steps, length-decimal-le}
 use Rattle.std.proofs.lemmas.List.{append_assoc}
-use Rattle.std.proofs.lemmas.Bool.{cond-true, le-leb, lt-leb, and_from}
+use Rattle.std.proofs.lemmas.Bool.{cond-true, le-leb, lt-leb, ne_eqb, and_from}
 use Rattle.std.proofs.lemmas.Bool.Decides.{nat_tests}
 use Rattle.esop.specs.Criterion.{Test, Strict, reduce, refine}
 use Rattle.esop.specs.Entering.{entered_all}
@@ -29,16 +29,23 @@ use Rattle.reader.specs.Lines.{skipped, pieces, class_of}
 use Rattle.reader.specs.Reading.{Sheet, heading_of, step, judged, read, to}
 use Rattle.reader.specs.declared.state.Refused.{Refused}
 use Rattle.reader.specs.declared.state.State.TheVariants.{Inputs}
-use Rattle.reader.proofs.AcceptedLaws.{read_spelled}
-use Rattle.reader.proofs.BackLaws.{Each, NoFeed, each_append, decimal_feed, judged_line, Ranges, ranges, sheet_judged, sheet_short}
+use Rattle.reader.specs.Back.{all_words}
+use Rattle.reader.proofs.AcceptedLaws.{read_spelled, Worded, read_worded}
+use Rattle.reader.proofs.BackLaws.{Each, NoFeed, each_append, judged_line, Ranges, ranges, sheet_judged, sheet_short}
 use Rattle.minimizer.specs.declared.refusal.PrintRefusal.TheVariants.{Write}
 use Rattle.minimizer.specs.Minimizing.{workable, shrinkable}
 use Rattle.minimizer.specs.Printing.{reading, printout_of, printable, printable_text, printed, Faithful, Promised}
 use Rattle.minimizer.specs.Printout.{printout_refusal}
 use Rattle.minimizer.specs.Refusals.{print_number}
 use Rattle.minimizer.specs.Shrinking.{reduced_run, refined_run, shrunk, summary_of, reduced_summary, refined_summary, log, Logged}
-use Rattle.minimizer.proofs.KeepLaws.{shrunk_keeps}
+use Rattle.minimizer.proofs.KeepLaws.{shrunk_keeps, shrunk_words}
 use Rattle.minimizer.proofs.ShrinkLaws.{logged}
+
+-- a number in decimal has no line feed
+decimal_feed : (n : ℕ) → n < 2 ^ 64 → Each NoFeed (decimal n)
+decimal_feed =
+    decimal_by_steps (λ n ds. Each NoFeed ds) (λ n h. (ne_eqb (48 + n) 10 (λ e. omega arith), tt))
+    (λ n ds h front. each_append NoFeed ds ((48 + n % 10) ∷ []) front (ne_eqb (48 + n % 10) 10 (λ e. omega arith), tt))
 
 -- the line of a run is a comment
 word_text : Bool → List ℕ
@@ -142,7 +149,7 @@ rows_logged rows few =
     logged rows rows (length rows + 2) (record { room = omega arith; work = omega arith })
     (histories_keep cubes cubes_lawful test_of strategies_strict rows _)
 
-module _ (text : List ℕ) (s : Sheet) (spelled : Spelled 960 text s) where
+module _ (text : List ℕ) (s : Sheet) (spelled : Spelled 960 text s) (words : all_words s.products ≡ true) where
   abbrev i : ℕ
   i = s.heading.inputs
 
@@ -152,11 +159,11 @@ module _ (text : List ℕ) (s : Sheet) (spelled : Spelled 960 text s) where
   abbrev rows : List Cube
   rows = s.products
 
-  ranges : Ranges i o s.heading.rows
-  ranges = ranges i o s.heading.rows spelled.range
+  heading_ranges : Ranges i o s.heading.rows
+  heading_ranges = ranges i o s.heading.rows spelled.range
 
   few : length rows ≤ 960
-  few = let r = ranges.rows in let c = spelled.count in omega arith
+  few = let r = heading_ranges.rows in let c = spelled.count in omega arith
 
   told : Logged rows rows (length rows + 2)
   told = rows_logged rows few
@@ -165,7 +172,7 @@ module _ (text : List ℕ) (s : Sheet) (spelled : Spelled 960 text s) where
   left_range =
       let c = told.sound.count in
       let f = few in
-      record { inputs = ranges.inputs; outputs = ranges.outputs; rows = omega arith }
+      record { inputs = heading_ranges.inputs; outputs = heading_ranges.outputs; rows = omega arith }
 
   range_true : in_range i o (length (shrunk rows)) ≡ true
   range_true =
@@ -174,7 +181,10 @@ module _ (text : List ℕ) (s : Sheet) (spelled : Spelled 960 text s) where
       (le-leb (length (shrunk rows)) 960 r.rows)
 
   keep_true : all_keep i o (shrunk rows) ≡ true
-  keep_true = shrunk_keeps i o rows spelled.keep
+  keep_true = shrunk_keeps i o heading_ranges.inputs.1 heading_ranges.outputs.1 rows spelled.keep words
+
+  words_true : all_words (shrunk rows) ≡ true
+  words_true = shrunk_words i o heading_ranges.inputs.1 heading_ranges.outputs.1 rows spelled.keep words
 
   short : length (printout_of s) ≤ 64000
   short =
@@ -193,11 +203,11 @@ module _ (text : List ℕ) (s : Sheet) (spelled : Spelled 960 text s) where
       ∙ ap (λ t. judged 960 Inputs 1 (pieces t)) (append_assoc (run_text (reduced_summary rows)) (run_text (refined_summary rows)) (sheet_text i o (shrunk rows)))
       ∙ run_skipped 1 (reduced_summary rows) (run_text (refined_summary rows) ++ sheet_text i o (shrunk rows)) (reduced_small rows)
       ∙ run_skipped (1 + 1) (refined_summary rows) (sheet_text i o (shrunk rows)) (refined_small rows)
-      ∙ sheet_judged 960 (1 + 1 + 1) i o (shrunk rows) left_range keep_true (omega arith)
+      ∙ sheet_judged 960 (1 + 1 + 1) i o (shrunk rows) left_range keep_true words_true (omega arith)
 
   shrinks : shrinkable 960 962 (Ok s) ≡ Ok s
   shrinks =
-      let r = ranges.rows in
+      let r = heading_ranges.rows in
       ap (workable 962) (cond-true _ _ _ (le-leb s.heading.rows 960 r)) ∙ cond-true _ _ _ (le-leb (s.heading.rows + 2) 962 (omega arith))
 
   -- by whether the printout fits the memory
@@ -231,8 +241,8 @@ module _ (text : List ℕ) (s : Sheet) (spelled : Spelled 960 text s) where
 
 pub promised : (m : List ℕ) (n : ℕ) → Promised m (reading m n) (printed m n)
 unfolding printable_text
-promised m n = by (reading m n) (read_spelled 960 (take n m))
+promised m n = by (reading m n) (read_spelled 960 (take n m)) (read_worded 960 (take n m))
   where
-    by : (v : Result Sheet Refused) → Accepted 960 (take n m) v → Promised m v (printed_by print_number (printable_text m v))
-    by (Err e) a = refl
-    by (Ok s) a = record { short = short (take n m) s a; fits = faithful (take n m) s a m; full = full (take n m) s a m }
+    by : (v : Result Sheet Refused) → Accepted 960 (take n m) v → Worded v → Promised m v (printed_by print_number (printable_text m v))
+    by (Err e) a w = refl
+    by (Ok s) a w = record { short = short (take n m) s a w; fits = faithful (take n m) s a w m; full = full (take n m) s a w m }

@@ -59,7 +59,7 @@ rows_stored room n text l k h a sp e =
 
 pub loads_by : {N : ℕ} (room n : ℕ) (text : List ℕ) (c d : Cover Cube N) (l k : List Cube) (h : Heading) (m : ℕ) → Ok h ≡ heading_or (loadable room (read n text)) → Spells n text
     → k ≡ stored l (read n text) → held_of d ≡ (admitted cubes (held_of c) (take (h.rows - 0) k)).held → m ≡ length (used d) → length d.places.now ≡ length c.places.now
-    → name d.places ≡ name c.places → Loads (loadable room (read n text)) c l (Ok (record { heading = h; count = m })) d k
+    → d.places.ghost_name ≡ c.places.ghost_name → Loads (loadable room (read n text)) c l (Ok (record { heading = h; count = m })) d k
 loads_by room n text c d l k h m q sp e held count size lender =
     let a = admitted_is room (read n text) h q in
     let s = a.sheet in

@@ -1,4 +1,6 @@
 // From the text of a sheet to its shrunk sheet: loading, the two runs, and what is printed.
+#![tactic(auto)]
+
 mod call;
 mod loader;
 mod printout;

@@ -165,7 +165,7 @@ module _ (i o : ℕ) (c : Cube) (li : i ≤ 32) (lo : o ≤ 32) (keep : keeps_to
       absent_bits (bit c.zeros j) (bit c.ones j) (bit_below c.zeros j) (bit_below c.ones j)
       (ap absent (sym (cond-true _ _ _ (lt-ltb j 32 lt))) ∙ sym (ap (λ b. b || absent (form_of c j)) (le-ltb j i le)) ∙ both.0)
 
-  past_outputs : (j : ℕ) → o ≤ j → j < 32 → bit c.outputs j ≡ 0
+  pub past_outputs : (j : ℕ) → o ≤ j → j < 32 → bit c.outputs j ≡ 0
   past_outputs j le lt =
       let both = and_parts (ltb j i || absent (form_of c j)) (ltb j o || not (driven c j)) (everywhere_at (keeps_at i o c) 32 j lt keep) in
       undriven_bit (bit c.outputs j) (bit_below c.outputs j)

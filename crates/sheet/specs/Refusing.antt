@@ -1,5 +1,5 @@
--- The line of a refusal, and a text that is written only where it fits.
-use Rattle.std.specs.Prelude.{ℕ, cond, List, ◌++◌, length, Some, None, codes, Option}
+-- The line of a refusal, a text that is written only where it fits, and what a program prints.
+use Rattle.std.specs.Prelude.{◌≡◌, ℕ, ◌≤◌, cond, List, ◌++◌, length, Some, None, Ok, Err, codes, Option, Result}
 use Rattle.sheet.specs.Text.{decimal, line}
 use Rattle.sheet.specs.Writing.{written, has_room}
 
@@ -12,3 +12,28 @@ length_within m t = cond (has_room m 0 t) (Some (length t)) None
 
 abbrev pub kept_within : List ℕ → List ℕ → List ℕ
 kept_within m t = cond (has_room m 0 t) (written m 0 t) m
+
+-- A text for a program to print, or a refusal: the length of the text or the refusal is answered, the text goes to the memory's start, and a refusal
+-- leaves the memory as it was.
+abbrev pub length_or : {E : Type 0} → Result (List ℕ) E → Result ℕ E
+length_or (Ok text) = Ok (length text)
+length_or (Err why) = Err why
+
+abbrev pub memory_or : {E : Type 0} → Result (List ℕ) E → List ℕ → List ℕ
+memory_or (Ok text) m = written m 0 text
+memory_or (Err why) m = m
+
+abbrev pub Fits : {E : Type 0} → Result (List ℕ) E → List ℕ → Type 0
+Fits (Ok text) m = length text ≤ length m
+Fits (Err why) m = Unit {0}
+
+-- the text, if there is one, fits the memory m and was written; r is the answer and m' what the memory holds
+pub record Answered {E : Type 0} (text : Result (List ℕ) E) (m : List ℕ) (r : Result ℕ E) (m' : List ℕ) : Type 0 where
+  pub answer : r ≡ length_or text
+  pub memory : m' ≡ memory_or text m
+  pub fits : Fits text m
+
+-- the bytes that are printed: the text, or the line of the refusal
+abbrev pub printed_by : {E : Type 0} → (E → ℕ) → Result (List ℕ) E → List ℕ
+printed_by number (Ok text) = text
+printed_by number (Err why) = refusal_text (number why)

@@ -1,5 +1,7 @@
 // Examples of the public calls of every library, as tests: each is proved, and then run. They have a crate of their
 // own, since a crate with tests is proved twice.
+#![tactic(auto)]
+
 #[cfg(test)]
 mod blocks;
 #[cfg(test)]

@@ -16,6 +16,6 @@ returns-in-Ok c =
     record {
       answered =
           call_printed c.args.text.now _ c.args.len c.min-end.result _ _ _ c.in-Ok.minimized c.minimize.new.places _ c.min-end.ensures refl refl refl
-          c.in-Ok.ensures.minimizes.answer c.in-Ok.ensures.minimizes.first c.put-minimized.ensures;
+          c.in-Ok.ensures.minimizes.answer c.in-Ok.ensures.minimizes.first c.put_minimized.ensures;
       promised = promised;
     }

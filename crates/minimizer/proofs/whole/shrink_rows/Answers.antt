@@ -7,7 +7,7 @@ returns c =
     record {
       minimizes =
           minimizes_by (min 960 (length c.args.places.now)) (length c.args.list.now) (length c.args.work.now) c.args.text.now c.args.list.now
-          c.read-sheet.new.list c.args.heading c.args.places.now _ _ refl c.requires c.read-sheet.ensures.spells c.read-sheet.ensures.products
+          c.read_sheet.new.list c.args.heading c.args.places.now _ _ refl c.requires c.read_sheet.ensures.spells c.read_sheet.ensures.products
           c.shrink-shrunk.ensures.shrinks;
       work = λ u. c.shrink-shrunk.ensures.work u.0 u.1;
     }
