@@ -1,9 +1,8 @@
 -- A packed cube covers what the cube covers.
 -- Assumes nothing.
-use Rattle.std.proofs.Common.{◌≡◌, ℕ, zero, suc, ◌+◌, ◌-◌, ◌*◌, ◌/◌, ◌%◌, ◌^◌, ◌<◌, ◌≤◌, Bool, true, false, cond, not, ◌&&◌, eqb, ltb, ◌⊎◌, List, [], ◌∷◌, get_or, sym, refl, ap, ◌∙◌, subst, ap₂, inl, inr, ⊎_elim, arith}
-use native.Mathlib.Nat.{div-eq_of_lt}
+use Rattle.std.proofs.Common.{◌≡◌, ℕ, zero, suc, ◌+◌, ◌-◌, ◌*◌, ◌/◌, ◌%◌, ◌^◌, ◌<◌, ◌≤◌, Bool, true, false, not, ◌&&◌, eqb, ltb, get_or, sym, refl, ap, ◌∙◌, subst, ap₂, ⊎_elim, arith}
 use Rattle.std.proofs.lemmas.Nat.{shr-shr}
-use Rattle.std.proofs.lemmas.Bool.{cases_eq, cases_lt, and_parts, and_from, cond-true, cond-false, eq-eqb, ne_eqb, eqb-true, lt-ltb, ltb-true, le-ltb}
+use Rattle.std.proofs.lemmas.Bool.{cases_eq, cases_lt, and_parts, and_from, cond-true, lt-ltb, ltb-true}
 use Rattle.esop.specs.Positionwise.{everywhere}
 use Rattle.esop.proofs.Everywhere.{everywhere_all, everywhere_at}
 use Rattle.cube.specs.Bit.{bit}
@@ -12,7 +11,6 @@ use Rattle.cube.specs.Covering.{value, meets, covers}
 use Rattle.cube.specs.declared.cube.Cube.{Cube}
 use Rattle.cube.specs.declared.cube.Form.{Form}
 use Rattle.cube.specs.declared.cube.Form.TheVariants.{Negative, Positive, Absent}
-use Rattle.cube.specs.BitLaws.{bit_below, by_bit}
 use Rattle.cube.proofs.CoveringLaws.{form_value, absent_meets, value_form}
 use Rattle.block.specs.Bytes.{sound}
 use Rattle.block.specs.Blocks as blocks

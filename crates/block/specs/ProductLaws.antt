@@ -5,7 +5,7 @@ use Rattle.std.proofs.Common.{sym, ap, ◌∙◌, inl, inr, mod-lt, zero-lt-suc,
 use Rattle.std.proofs.Math.Nat.{pow-succ', pow-le-pow_right}
 use Rattle.std.specs.Int.Bits.{bit_xor, xor_assoc, xor_self, xor_zero_l, xor_zero_r}
 use Rattle.std.proofs.lemmas.Nat.{xor_shr, xor_mod}
-use Rattle.std.proofs.lemmas.Bool.{eqb-false, eq-eqb, ne_eqb, ltb-true, lt-ltb, le-ltb, and_parts, and_from, and_left, and_right, cases_eq, cases_lt, cond-true, cond-false, not-true}
+use Rattle.std.proofs.lemmas.Bool.{eqb-false, eq-eqb, ne_eqb, ltb-true, lt-ltb, le-ltb, and_parts, and_right, cases_eq, cases_lt, cond-true, cond-false, not-true}
 use Rattle.esop.specs.Kind.{Positions, Laws, differs, either}
 use Rattle.esop.specs.Positionwise.{everywhere}
 use Rattle.esop.proofs.Positionwise.{and_either, positionwise_lawful}

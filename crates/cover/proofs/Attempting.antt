@@ -8,7 +8,7 @@ use Rattle.esop.specs.Entering.{total_weight}
 use Rattle.esop.specs.Linking.{Group, IsGroup, span, result, says}
 use Rattle.esop.specs.History.{replaced, ran_by}
 use Rattle.esop.proofs.Linking.{nth_is}
-use Rattle.cover.specs.Holding.{used, free, held_of}
+use Rattle.cover.specs.Holding.{used, held_of}
 use Rattle.cover.specs.Recording.{Supplied}
 use Rattle.cover.specs.declared.memory.Cover.{Cover}
 

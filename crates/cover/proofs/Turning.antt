@@ -8,7 +8,7 @@ use Rattle.esop.specs.Criterion.{Test, Strict}
 use Rattle.esop.specs.History as history
 use Rattle.esop.specs.History.{Held, Turn, turn_of, memory, opened, served, turns, left, admitted, linked, ran_by}
 use Rattle.esop.proofs.History.{histories_keep}
-use Rattle.cover.specs.Holding.{used, free, held_of}
+use Rattle.cover.specs.Holding.{held_of}
 use Rattle.cover.specs.Calls.{Replied}
 use Rattle.cover.specs.Serving.{asked, said, call_asked, call_said, turns_of, end_of, Serves, Untouched}
 use Rattle.cover.specs.declared.memory.Cover.{Cover}

@@ -1,5 +1,5 @@
 -- What is owed for a list of requests.
-use Rattle.std.specs.Prelude.{◌≡◌, ℕ, ◌<◌, ◌≤◌, true, List, map, length, take, drop, Ok, Err, Result}
+use Rattle.std.specs.Prelude.{◌≡◌, ℕ, true, List, map, length, take, drop}
 use Rattle.std.specs.List.{between}
 use Rattle.esop.specs.Kind.{Meaning}
 use Rattle.esop.specs.Criterion.{Test}
@@ -12,7 +12,6 @@ use Rattle.cover.specs.declared.serve.Request.{Request}
 use Rattle.cover.specs.declared.serve.Request.TheVariants.{Enter, EnterAll, Link, Run}
 use Rattle.cover.specs.declared.serve.Answer.{Answer}
 use Rattle.cover.specs.declared.serve.Answer.TheVariants.{Entered, Linked, Ran}
-use Rattle.cover.specs.declared.serve.ServeRefusal.{ServeRefusal}
 
 -- a request, with the list that its list entries take their products from, and the number of places of the work memory
 abbrev pub asked : {P Y : Type 0} → List P → ℕ → Request P Y → history.Request P Y

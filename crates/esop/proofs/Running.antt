@@ -1,8 +1,8 @@
 -- What a run keeps, when it ends, what it leaves, and what its record says.
-use Rattle.std.proofs.Common.{◌≡◌, ℕ, zero, suc, ◌+◌, ◌-◌, ◌≤◌, Bool, true, false, cond, eqb, ◌⊎◌, List, [], ◌∷◌, length, refl, ap, ◌∙◌, inl, inr, arith}
+use Rattle.std.proofs.Common.{◌≡◌, ℕ, zero, suc, ◌+◌, ◌≤◌, Bool, true, false, cond, eqb, ◌⊎◌, List, [], ◌∷◌, length, refl, ap, ◌∙◌, inl, inr, arith}
 use Rattle.std.proofs.lemmas.Bool.{cond_both}
 use Rattle.std.proofs.lemmas.Bool.Decides.{nat_tests}
-use Rattle.esop.specs.Kind.{Meaning, distance}
+use Rattle.esop.specs.Kind.{Meaning}
 use Rattle.esop.specs.Criterion.{Test, Strict}
 use Rattle.esop.specs.Entering.{bit}
 use Rattle.esop.specs.Linking.{Group, IsGroup, span, result, says, Links}

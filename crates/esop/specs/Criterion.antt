@@ -1,5 +1,5 @@
 -- Which links are kept.
-use Rattle.std.specs.Prelude.{◌≡◌, ℕ, ◌<◌, Bool, true, false, cond, ◌&&◌, ◌||◌, ◌⊎◌, ◌==◌, nat_le, nat_lt}
+use Rattle.std.specs.Prelude.{◌≡◌, ℕ, ◌<◌, Bool, true, cond, ◌&&◌, ◌||◌, ◌⊎◌, ◌==◌, nat_le, nat_lt}
 
 -- a yes or no for the distance of the two products linked, the count and the total weight of the cover before, and the count and the total weight after
 abbrev pub Test : Type 0

@@ -1,6 +1,6 @@
 -- What the call answers, from what its steps did.
 -- Assumes nothing.
-use Rattle.std.proofs.Common.{◌≡◌, ℕ, ◌+◌, ◌-◌, ◌*◌, ◌/◌, ◌%◌, ◌^◌, ◌<◌, ◌≤◌, Bool, true, false, cond, ◌&&◌, eqb, ltb, leb, List, [], ◌∷◌, ◌++◌, length, get_or, take, drop, Some, None, Ok, Err, Result, sym, refl, ap, ◌∙◌, subst, ap₂, ⊎_elim, mul_assoc, mul_comm, arith, pow_pos, pow_mono, pow-add}
+use Rattle.std.proofs.Common.{◌≡◌, ℕ, ◌+◌, ◌-◌, ◌*◌, ◌/◌, ◌%◌, ◌^◌, ◌<◌, ◌≤◌, true, cond, ◌&&◌, eqb, ltb, leb, List, ◌++◌, length, get_or, take, drop, Some, Ok, Err, sym, refl, ap, ◌∙◌, subst, ap₂, ⊎_elim, mul_assoc, arith, pow_pos, pow_mono, pow-add}
 use lib.Seq.{paste}
 use Rattle.std.proofs.lemmas.Nat.{mod_low, shr_high, pow_below}
 use Rattle.std.proofs.lemmas.List.Edits.{paste_all}
@@ -17,7 +17,6 @@ use Rattle.cube.proofs.CoveringLaws.{absent_meets}
 use Rattle.expansion.specs.Tables.{binary, inputs_of}
 use Rattle.expansion.specs.Expansions.{Expansion, products, chosen, needed, chosen_products}
 use Rattle.expansion.specs.Answers.{start_of, asked, expansion_of, counted, filled, Expanded}
-use Rattle.expansion.specs.declared.refusal.ExpandRefusal.{ExpandRefusal}
 use Rattle.expansion.specs.declared.refusal.ExpandRefusal.TheVariants.{Room}
 use Rattle.expansion.proofs.TableLaws.{binary_at, exponent_found}
 use Rattle.expansion.proofs.SplitLaws.{length_products}

@@ -1,24 +1,19 @@
 -- What is true of every expansion, and of the chosen one: it means the table, and none has fewer products.
 -- Assumes nothing.
-use Rattle.std.proofs.Common.{◌≡◌, ℕ, zero, suc, ◌+◌, ◌-◌, ◌*◌, ◌/◌, ◌%◌, ◌^◌, ◌<◌, ◌≤◌, Bool, true, false, cond, ◌&&◌, eqb, ltb, List, [], ◌∷◌, ◌++◌, length, get_or, take, drop, sym, refl, ap, ◌∙◌, subst, ap₂, ⊎_elim, pow-suc, arith, pow_pos, pow-add}
+use Rattle.std.proofs.Common.{◌≡◌, ℕ, zero, suc, ◌+◌, ◌*◌, ◌%◌, ◌^◌, ◌<◌, ◌≤◌, Bool, true, false, cond, ◌&&◌, eqb, List, [], ◌∷◌, ◌++◌, length, get_or, sym, refl, ap, ◌∙◌, subst, ap₂, pow-suc, arith, pow_pos}
 use lib.Bits.{bit_xor, xor_lt}
-use Rattle.std.proofs.lemmas.Nat.{mod-pow-add, mod_below, mod_low, shr_high, pow_below}
+use Rattle.std.proofs.lemmas.Nat.{mod-pow-add, mod_below}
 use Rattle.std.proofs.lemmas.List.{get_or-take, get_or-drop, length-take-le, length-drop}
-use Rattle.std.proofs.lemmas.Bool.{cases_order, cond-true, cond-false, eq-eqb, ne_eqb, lt-ltb}
+use Rattle.std.proofs.lemmas.Bool.{cond-true, cond-false, ne_eqb, lt-ltb}
 use Rattle.cube.specs.Bit.{bit}
-use Rattle.cube.specs.Cubes.{words_of, with_form}
-use Rattle.cube.specs.Cubes as cubes
-use Rattle.cube.specs.Covering.{value, meets, covers, covering}
+use Rattle.cube.specs.Cubes.{with_form}
+use Rattle.cube.specs.Covering.{value, covers, covering}
 use Rattle.cube.specs.declared.cube.Cube.{Cube}
 use Rattle.cube.specs.declared.cube.Form.{Form}
-use Rattle.cube.specs.declared.cube.Form.TheVariants.{Negative, Positive, Absent}
-use Rattle.cube.specs.BitLaws.{bit_below, bit_mask, bit_pow_same}
-use Rattle.cube.specs.MakingLaws.{made_words}
+use Rattle.cube.specs.BitLaws.{bit_below}
 use Rattle.cube.proofs.CoveringLaws.{form_value, form_at_index, form_covers}
-use Rattle.expansion.specs.Tables.{binary, mixed}
-use Rattle.expansion.specs.Splits.{spent, cheapest, low, high, sum, first_part, second_part, first_form, second_form}
-use Rattle.expansion.specs.Expansions.{Expansion, cost, products, chosen, split_at, needed}
-use Rattle.expansion.specs.Answers.{start_of}
+use Rattle.expansion.specs.Splits.{low, high, sum, first_part, second_part, first_form, second_form}
+use Rattle.expansion.specs.Expansions.{Expansion, cost, products, split_at, needed}
 use Rattle.expansion.specs.declared.split.Split.{Split}
 use Rattle.expansion.specs.declared.split.Split.TheVariants.{Shannon, PositiveDavio, NegativeDavio}
 use Rattle.expansion.proofs.TableLaws.{length_mixed, get_d_mixed}

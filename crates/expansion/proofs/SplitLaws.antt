@@ -1,16 +1,16 @@
 -- How a table of 2 ^ k bytes is split, said of its two halves.
 -- Assumes nothing.
-use Rattle.std.proofs.Common.{◌≡◌, ℕ, zero, suc, ◌+◌, ◌-◌, ◌/◌, ◌^◌, ◌<◌, ◌≤◌, Bool, true, false, cond, ◌&&◌, eqb, leb, List, [], ◌∷◌, ◌++◌, length, get_or, take, drop, sym, refl, ap, ◌∙◌, ap₂, pow-suc, arith}
+use Rattle.std.proofs.Common.{◌≡◌, ℕ, zero, suc, ◌+◌, ◌-◌, ◌/◌, ◌^◌, ◌≤◌, Bool, true, false, cond, ◌&&◌, eqb, leb, List, [], ◌∷◌, ◌++◌, length, get_or, take, drop, sym, refl, ap, ◌∙◌, ap₂, pow-suc, arith}
 use Rattle.std.proofs.lemmas.List.{length-append, length-drop, take_all}
 use Rattle.std.proofs.lemmas.Bool.Decides.{nat_tests}
 use Rattle.cube.specs.Cubes.{with_form}
 use Rattle.cube.specs.declared.cube.Cube.{Cube}
-use Rattle.expansion.specs.Tables.{mixed, turned, folded}
+use Rattle.expansion.specs.Tables.{mixed, turned}
 use Rattle.expansion.specs.Splits.{cheapest, spent, low, high, sum, first_part, second_part, first_form, second_form, first_from}
 use Rattle.expansion.specs.Expansions.{Expansion, cost, products, chosen, split_at, needed, chosen_products}
 use Rattle.expansion.specs.declared.split.Split.{Split}
 use Rattle.expansion.specs.declared.split.Split.TheVariants.{Shannon, PositiveDavio, NegativeDavio}
-use Rattle.expansion.proofs.TableLaws.{half_is, two_halves, low_length, high_length, sum_length, folded_length, high_folded, folded_twice, upper}
+use Rattle.expansion.proofs.TableLaws.{half_is, two_halves, low_length, high_length, folded_length, high_folded, folded_twice}
 
 -- what the parts of a split need together
 pub spent_is : (s : Split) (k : ℕ) (t : List ℕ)

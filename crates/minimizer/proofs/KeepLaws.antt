@@ -1,13 +1,12 @@
 -- What the runs leave keeps to the inputs and outputs that the rows keep to.
 -- Assumes nothing.
-use Rattle.std.proofs.Common.{◌≡◌, ℕ, ◌+◌, ◌-◌, ◌*◌, ◌/◌, ◌%◌, ◌^◌, ◌<◌, ◌≤◌, Bool, true, false, not, cond, ◌&&◌, ◌||◌, eqb, ltb, List, [], ◌∷◌, sym, refl, ap, ◌∙◌, ap₂, ⊎_elim, div-lt_iff_lt-mul, arith, pow_pos}
+use Rattle.std.proofs.Common.{◌≡◌, ℕ, ◌+◌, ◌-◌, ◌*◌, ◌%◌, ◌^◌, ◌<◌, ◌≤◌, Bool, true, false, not, cond, ◌&&◌, ◌||◌, eqb, ltb, List, [], ◌∷◌, sym, refl, ap, ◌∙◌, ap₂, ⊎_elim, div-lt_iff_lt-mul, arith, pow_pos}
 use Rattle.std.proofs.Math.Nat.{div-eq_of_lt}
 use Rattle.std.proofs.Math.Pow.{pow_mono}
 use lib.Bits.{bit_xor, xor_lt}
 use Rattle.std.specs.List.{AllByRecursion as All}
 use Rattle.std.proofs.lemmas.Bool.{cond-true, cond-false, cases_lt, lt-ltb, le-ltb, ltb-true, eqb-true, eq-eqb, and_from, and_parts, or_left, or_right}
 use Rattle.esop.specs.Lasting.{Passes, JoinKeeps}
-use Rattle.esop.specs.Positionwise.{everywhere}
 use Rattle.esop.proofs.Everywhere.{everywhere_all, everywhere_at}
 use Rattle.esop.proofs.Lasting.{values_last}
 use Rattle.cube.specs.Bit.{bit}

@@ -10,7 +10,7 @@ use Rattle.minimizer.specs.declared.refusal.LoadRefusal.{LoadRefusal}
 use Rattle.minimizer.specs.declared.shrink.Shrunk.{Shrunk}
 use Rattle.minimizer.specs.Loading.{loadable, heading_or}
 use Rattle.minimizer.specs.Minimizing.{workable, shrinkable, Minimizes}
-use Rattle.minimizer.specs.Shrinking.{Shrinks, shrunk}
+use Rattle.minimizer.specs.Shrinking.{Shrinks}
 use Rattle.minimizer.proofs.LoadLaws.{Admitted, admitted_is, Stored, rows_stored}
 
 -- a text that is shrunk is one that is loaded, and there is work memory for its rows

@@ -21,7 +21,7 @@ use Rattle.reader.specs.declared.state.State.TheVariants as state
 use Rattle.reader.specs.Back.{all_words, ReadsBack}
 use Rattle.reader.specs.Lines.{ended, push, pieces, row, up_to, row_of, class_of}
 use Rattle.reader.specs.Numbers.{is_digit, value_from, numeral, within, number_in, wanted, placed}
-use Rattle.reader.specs.Reading.{Step, numbered, step, row_added, heading_of, added, then, judged, verdict}
+use Rattle.reader.specs.Reading.{Step, numbered, step, row_added, heading_of, added, then, judged}
 use Rattle.reader.specs.Rows.{forms_over, form_words, driven_word, made_row, product_of}
 use Rattle.reader.proofs.NumberLaws.{within_in}
 use Rattle.reader.proofs.RowLaws.{product_long}

@@ -1,9 +1,9 @@
 -- A row spells its product: its characters are those of the words that are read from it.
 -- Assumes nothing.
-use Rattle.std.proofs.Common.{◌≡◌, ℕ, zero, suc, ◌+◌, ◌-◌, ◌*◌, ◌/◌, ◌%◌, ◌^◌, ◌<◌, ◌≤◌, Bool, true, cond, ◌&&◌, eqb, List, [], ◌∷◌, ◌++◌, length, Some, None, Option, sym, refl, ap, ◌∙◌, ap₂, ⊎_elim, div-lt_iff_lt-mul, pow-suc, arith, lit<, pow_pos, pow-add}
+use Rattle.std.proofs.Common.{◌≡◌, ℕ, zero, suc, ◌+◌, ◌-◌, ◌*◌, ◌/◌, ◌%◌, ◌^◌, ◌<◌, ◌≤◌, cond, ◌&&◌, eqb, List, [], ◌∷◌, ◌++◌, length, Some, None, Option, sym, refl, ap, ◌∙◌, ap₂, div-lt_iff_lt-mul, pow-suc, arith, lit<, pow_pos, pow-add}
 use native.Mathlib.Nat.{div-div-eq-div-mul}
 use lib.Bits.{bit_or}
-use Rattle.std.proofs.lemmas.Bool.{cond-true, cond_both, lt-ltb, eqb-true, cases_eq, and_parts, and_from}
+use Rattle.std.proofs.lemmas.Bool.{cond-true, cond_both, lt-ltb, eqb-true}
 use Rattle.cube.specs.Bit.{bit}
 use Rattle.cube.specs.declared.cube.Cube.{Cube}
 use Rattle.cube.specs.declared.cube.Form.{Form}

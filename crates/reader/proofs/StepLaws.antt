@@ -5,7 +5,6 @@ use Rattle.std.proofs.lemmas.Bool.{cond_both, cond-true, cond-false, and_parts, 
 use Rattle.cube.specs.declared.cube.Cube.{Cube}
 use Rattle.reader.specs.declared.state.Heading.{Heading}
 use Rattle.reader.specs.declared.state.ReadRefusal.{ReadRefusal}
-use Rattle.reader.specs.declared.state.ReadRefusal.TheVariants as why
 use Rattle.reader.specs.declared.state.Refused.{Refused}
 use Rattle.reader.specs.declared.state.State.{State}
 use Rattle.reader.specs.declared.state.State.TheVariants as state

@@ -1,4 +1,4 @@
-use Rattle.std.proofs.Common.{◌≡◌, ap, ◌∙◌}
+use Rattle.std.proofs.Common.{ap, ◌∙◌}
 use Rattle.block.specs.Products.{covered}
 use Rattle.block.proofs.PackingLaws.{same_covering}
 use Rattle.block.proofs.packing.packed_same.Goals as goal

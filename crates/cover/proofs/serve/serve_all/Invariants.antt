@@ -1,4 +1,4 @@
-use Rattle.std.proofs.Common.{◌≡◌, ◌≤◌, length, take}
+use Rattle.std.proofs.Common.{◌≡◌, length, take}
 use Rattle.std.specs.List.{AllByRecursion as All}
 use Rattle.cover.specs.Serving.{Untouched}
 use Rattle.cover.proofs.Turning.{Turned}

@@ -1,4 +1,4 @@
-use Rattle.std.proofs.Common.{◌≡◌, length, ap, ◌∙◌, rules}
+use Rattle.std.proofs.Common.{length, ap, ◌∙◌, rules}
 use Rattle.expansion.specs.Tables.{inputs_of}
 use Rattle.expander.specs.Printing.{inputs_among}
 use Rattle.expander.proofs.SheetLaws.{accepted, refused, of_products, of_refusal}

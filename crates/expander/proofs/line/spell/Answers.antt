@@ -1,4 +1,4 @@
-use Rattle.std.proofs.Common.{◌≡◌, get_or, set, ap, ◌∙◌, arith}
+use Rattle.std.proofs.Common.{get_or, set, ap, ◌∙◌, arith}
 use Rattle.expander.specs.Printing.{byte_of}
 use Rattle.expander.proofs.SpellLaws.{spell_more, spell_all}
 use Rattle.expander.proofs.line.spell.Goals as goal

@@ -1,4 +1,4 @@
-use Rattle.std.proofs.Common.{◌≡◌, ℕ, ◌+◌, ◌<◌, ◌≤◌, length, sym, ap, ◌∙◌, arith, rules}
+use Rattle.std.proofs.Common.{◌≡◌, ◌+◌, length, ap, ◌∙◌, arith, rules}
 use lib.Seq.{paste}
 use Rattle.expansion.specs.Expansions.{needed, chosen_products}
 use Rattle.expansion.proofs.AnswerLaws.{table_length, no_room, placed}

@@ -1,12 +1,11 @@
-use Rattle.std.proofs.Common.{◌≡◌, ℕ, ◌+◌, ◌-◌, ◌/◌, ◌^◌, ◌<◌, ◌≤◌, cond, eqb, List, [], ◌∷◌, length, get_or, take, drop, set, sym, refl, ap, ◌∙◌, ap₂, arith, rules}
-use lib.Seq.{paste}
-use Rattle.std.proofs.lemmas.Bool.{cond-true, cond-false, eq-eqb, ne_eqb}
+use Rattle.std.proofs.Common.{◌-◌, ◌/◌, eqb, length, get_or, sym, ap, ◌∙◌, arith, rules}
+use Rattle.std.proofs.lemmas.Bool.{cond-true, eq-eqb}
 use Rattle.cube.specs.Cubes.{with_form}
 use Rattle.expansion.specs.Tables.{turned}
 use Rattle.expansion.specs.Splits.{first_form, second_form}
-use Rattle.expansion.specs.Expansions.{split_at, needed, chosen_products}
+use Rattle.expansion.specs.Expansions.{split_at}
 use Rattle.expansion.proofs.TableLaws.{part_back, two_halves}
-use Rattle.expansion.proofs.SplitLaws.{needed_leaf, products_leaf, turned_length, turned_twice}
+use Rattle.expansion.proofs.SplitLaws.{needed_leaf, turned_length, turned_twice}
 use Rattle.expansion.proofs.EmitLaws.{first_part_read, second_part_read, turned_now, first_fits, second_fits, both_placed, one_placed, none_placed}
 use Rattle.expansion.proofs.emit.+emit.Goals as goal
 

@@ -1,4 +1,4 @@
-use Rattle.std.proofs.Common.{◌≡◌, ◌+◌, ◌<◌, ◌≤◌, ◌≢◌, length, get_or, sym, ap, ◌∙◌, ap₂, le_refl, arith, get_or-set_other, get_or-set_same, below_more}
+use Rattle.std.proofs.Common.{◌+◌, ◌<◌, ◌≢◌, length, ap₂, le_refl, arith, get_or-set_other, get_or-set_same, below_more}
 use lib.Bits.{bit_xor}
 use Rattle.expansion.proofs.TableLaws.{folded_from}
 use Rattle.expansion.proofs.halves.fold.Goals as goal

@@ -1,7 +1,6 @@
-use Rattle.std.proofs.Common.{◌≡◌, ℕ, ◌+◌, ◌-◌, ◌/◌, ◌^◌, ◌<◌, ◌≤◌, cond, eqb, List, ◌++◌, length, get_or, take, drop, sym, refl, ap, ◌∙◌, subst, ap₂, arith, pow_mono, rules}
+use Rattle.std.proofs.Common.{◌≡◌, ℕ, ◌-◌, ◌/◌, ◌^◌, ◌≤◌, eqb, List, length, get_or, take, drop, sym, ap, ◌∙◌, arith, pow_mono, rules}
 use Rattle.std.proofs.lemmas.Bool.{cond-true, cond-false, eq-eqb, ne_eqb}
-use Rattle.expansion.specs.Tables.{mixed, folded}
-use Rattle.expansion.specs.Splits.{cheapest}
+use Rattle.expansion.specs.Tables.{folded}
 use Rattle.expansion.specs.Expansions.{needed, chosen}
 use Rattle.expansion.proofs.TableLaws.{front_back, part_back, upper, half_is, two_halves, low_length, high_length, sum_length, folded_length, high_folded, folded_twice}
 use Rattle.expansion.proofs.SplitLaws.{settled, cost_few, needed_leaf, split_at_leaf}

@@ -1,4 +1,4 @@
-use Rattle.std.proofs.Common.{◌≡◌, ◌+◌, ◌≤◌, sym, arith}
+use Rattle.std.proofs.Common.{◌≡◌, ◌≤◌, sym, arith}
 use Rattle.esop.proofs.Differing.{differences, more_yes, more_no, nth_here, nth_none}
 use Rattle.esop.proofs.product.Product.difference.Goals as goal
 use Rattle.esop.proofs.product.Product.difference.Goals.{then-differs+else-skip-eq0, else-differs}
