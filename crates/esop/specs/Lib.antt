@@ -9,3 +9,4 @@ pub mod History
 pub mod Lasting
 pub mod Claims
 pub mod Strategies
+pub mod CriterionLaws

@@ -1,7 +1,7 @@
 // Criteria: which links are kept.
 ghost use Rattle.std.specs.Prelude.{◌≡◌};
 ghost use Rattle.esop.specs.Criterion.{Test, Strict, reduce, refine};
-ghost use Rattle.std.proofs.Common.{rules};
+ghost use Rattle.esop.specs.CriterionLaws.{reduce_strict, refine_strict};
 
 // How many products a cover has, and what they weigh together.
 #[derive(Clone, Copy)]
@@ -33,7 +33,7 @@ pub struct Refine;
 impl Criterion for Reduce {
     ghost keeps = { λ _. reduce };
 
-    ghost strict = { Prim.search rules };
+    ghost strict = { λ _. reduce_strict };
 
     fn keeps(&self, distance: usize, before: Size, after: Size) -> bool {
         let fewer = after.count < before.count;
@@ -49,7 +49,7 @@ impl Criterion for Reduce {
 impl Criterion for Refine {
     ghost keeps = { λ _. refine };
 
-    ghost strict = { Prim.search rules };
+    ghost strict = { λ _. refine_strict };
 
     fn keeps(&self, distance: usize, before: Size, after: Size) -> bool {
         let near = distance == 2 || distance == 3;

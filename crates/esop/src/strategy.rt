@@ -1,6 +1,6 @@
 // The two criteria as values of one type, for requests that mix them.
 ghost use Rattle.esop.specs.Strategies.{test_of};
-ghost use Rattle.std.proofs.Common.{rules};
+ghost use Rattle.esop.specs.CriterionLaws.{strategies_strict};
 
 use crate::criterion::{Criterion, Reduce, Refine, Size};
 
@@ -13,7 +13,7 @@ pub enum Strategy {
 impl Criterion for Strategy {
     ghost keeps = { test_of };
 
-    ghost strict = { Prim.search rules };
+    ghost strict = { strategies_strict };
 
     fn keeps(&self, distance: usize, before: Size, after: Size) -> bool {
         match self {

@@ -4,13 +4,13 @@ use Rattle.std.proofs.Common.{◌≡◌, ℕ, ◌+◌, ◌%◌, ◌^◌, ◌<◌
 use Rattle.std.proofs.lemmas.Fmt.{decimal_by_steps, length-decimal-le}
 use Rattle.std.proofs.lemmas.List.{append_assoc}
 use Rattle.std.proofs.lemmas.Bool.{cond-true, le-leb, lt-leb, ne_eqb, and_from}
-use Rattle.std.proofs.lemmas.Bool.Decides.{nat_tests}
-use Rattle.esop.specs.Criterion.{Test, Strict, reduce, refine}
+use Rattle.esop.specs.Criterion.{Test, reduce, refine}
 use Rattle.esop.specs.Entering.{entered_all}
 use Rattle.esop.specs.Running.{run}
 use Rattle.esop.specs.Strategies.{test_of}
 use Rattle.esop.specs.declared.strategy.Strategy.{Strategy}
 use Rattle.esop.specs.declared.strategy.Strategy.TheVariants.{Reduce, Refine}
+use Rattle.esop.specs.CriterionLaws.{strategies_strict}
 use Rattle.esop.proofs.History.{histories_keep}
 use Rattle.esop.proofs.Running.{run_keeps}
 use Rattle.cube.specs.Positions.{cubes}
@@ -137,10 +137,6 @@ reduced_small rows = outcome_small Reduce reduce (entered_all cubes rows [])
 refined_small : (rows : List Cube) → Small (refined_summary rows)
 unfolding refined_run
 refined_small rows = outcome_small Refine refine (reduced_run rows).cover
-
-strategies_strict : (y : Strategy) → Strict (test_of y)
-strategies_strict Reduce k n w n' w' e = grind (arith, nat_tests)
-strategies_strict Refine k n w n' w' e = grind (arith, nat_tests)
 
 -- the history of the rows on a memory that just holds them
 rows_logged : (rows : List Cube) → length rows ≤ 960 → Logged rows rows (length rows + 2)
