@@ -2,7 +2,7 @@
 use Rattle.std.proofs.Common.{◌≡◌, ℕ, ◌+◌, ◌-◌, ◌<◌, ◌≤◌, min, ◌⊎◌, List, [], ◌∷◌, ◌++◌, map, length, get_or, take, drop, set, sym, refl, ap, ◌∙◌, subst, ap₂, inl, inr, ⊎_elim, arith, length-set, take-append-drop}
 use Rattle.std.proofs.lemmas.Bool.{cases_lt}
 use Rattle.std.proofs.lemmas.List.{length-drop, take_rest, drop_all, take_more, take_more_set, take_all, map_push, drop-set-lt}
-use Rattle.std.specs.List.{between, AllByRecursion as All}
+use Rattle.std.specs.List.{between, AllByRecursion}
 use Rattle.esop.specs.Kind.{Meaning, Laws}
 use Rattle.esop.specs.Criterion.{Test, Strict}
 use Rattle.esop.specs.History as history
@@ -17,7 +17,7 @@ use Rattle.cover.specs.declared.serve.Request.TheVariants.{Enter, EnterAll, Link
 use Rattle.cover.specs.declared.serve.Answer.{Answer}
 use Rattle.cover.proofs.Attempting.{count_of}
 
-all_last : {X : Type 0} (Q : X → Type 0) (xs : List X) (x : X) → All Q (xs ++ x ∷ []) → All Q xs × Q x
+all_last : {X : Type 0} (Q : X → Type 0) (xs : List X) (x : X) → AllByRecursion Q (xs ++ x ∷ []) → AllByRecursion Q xs × Q x
 all_last Q [] x h = (tt, h.0)
 all_last Q (y ∷ xs) x h = let r = all_last Q xs x h.1 in ((h.0, r.0), r.1)
 
@@ -50,8 +50,8 @@ clipped xs from to end start e s =
     nothing n = take_all n [] (omega arith)
 
 -- one more answer: no group was tried for those before it, nor for it
-pub untouched_more : (ys : List Answer) (i : ℕ) (a : Answer) → i < length ys → All Untouched (take (i + 1) (set ys i a)) → All Untouched (take i ys) × Untouched a
-untouched_more ys i a l u = all_last Untouched (take i ys) a (subst (All Untouched) (take_more_set ys i a l) u)
+pub untouched_more : (ys : List Answer) (i : ℕ) (a : Answer) → i < length ys → AllByRecursion Untouched (take (i + 1) (set ys i a)) → AllByRecursion Untouched (take i ys) × Untouched a
+untouched_more ys i a l u = all_last Untouched (take i ys) a (subst (AllByRecursion Untouched) (take_more_set ys i a l) u)
 
 module _ {P Y : Type 0} (m : Meaning P) (keeps : Y → Test) where
   -- each request is served by its call

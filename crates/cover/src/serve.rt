@@ -1,6 +1,6 @@
 // Serving: a cover is opened on lent places, and a list of requests is answered.
 ghost use Rattle.std.specs.Prelude.{◌≡◌, ◌<◌, ◌≤◌, true, length, take, is_ok, Ok, Err};
-ghost use Rattle.std.specs.List.{between, AllByRecursion as All};
+ghost use Rattle.std.specs.List.{between, AllByRecursion};
 ghost use Rattle.esop.specs.History.{served};
 ghost use Rattle.cover.specs.Holding.{held_of};
 ghost use Rattle.cover.specs.Calls.{Replied};
@@ -94,7 +94,7 @@ fn serve_all<P: Product, C: Criterion>(
 ) -> usize
     requires { length requests.now ≤ length answers.old }
     ensures all { Serves P.meaning C.keeps places.old list.now requests.now (length work.old) answers.old result places.new answers.new }
-    ensures work { All Untouched (take (length requests.now) answers.new) → work.new ≡ work.old }
+    ensures work { AllByRecursion Untouched (take (length requests.now) answers.new) → work.new ≡ work.old }
 {
     let mut cover = Cover::<P, MOST>::open(places);
     for i in 0..requests.len() {
@@ -116,7 +116,7 @@ pub fn serve<P: Product, C: Criterion>(
       | Ok n ↦ (length requests.now ≤ length answers.old) × Serves P.meaning C.keeps places.old list.now requests.now (length work.old) answers.old n places.new answers.new
       | Err e ↦ (length answers.old < length requests.now) × (places.new ≡ places.old) × (work.new ≡ work.old) × (answers.new ≡ answers.old)
     ] }
-    ensures work { is_ok result ≡ true → All Untouched (take (length requests.now) answers.new) → work.new ≡ work.old }
+    ensures work { is_ok result ≡ true → AllByRecursion Untouched (take (length requests.now) answers.new) → work.new ≡ work.old }
 {
     if answers.len() < requests.len() {
         return Err(ServeRefusal::FewAnswers);

@@ -4,7 +4,7 @@ use Rattle.std.proofs.Common.{◌≡◌, ℕ, ◌+◌, ◌-◌, ◌*◌, ◌%◌
 use Rattle.std.proofs.Math.Nat.{div-eq_of_lt}
 use Rattle.std.proofs.Math.Pow.{pow_mono}
 use lib.Bits.{bit_xor, xor_lt}
-use Rattle.std.specs.List.{AllByRecursion as All}
+use Rattle.std.specs.List.{AllByRecursion}
 use Rattle.std.proofs.lemmas.Bool.{cond-true, cond-false, cases_lt, lt-ltb, le-ltb, ltb-true, eqb-true, eq-eqb, and_from, and_parts, or_left, or_right}
 use Rattle.esop.specs.Lasting.{Passes, JoinKeeps}
 use Rattle.esop.proofs.Everywhere.{everywhere_all, everywhere_at}
@@ -117,25 +117,25 @@ module _ (i o : ℕ) (li : i ≤ 32) (lo : o ≤ 32) where
       (λ (a : o ≤ j). or_right (ltb j o) (not (driven c j)) (ap not (undriven c j l (bit_above o j c.outputs a (passes_word c h)))))
       (cases_lt j o)))
 
-  all_pass : (cs : List Cube) → all_keep i o cs ≡ true → all_words cs ≡ true → All (Passes cubes (within i o)) cs
+  all_pass : (cs : List Cube) → all_keep i o cs ≡ true → all_words cs ≡ true → AllByRecursion (Passes cubes (within i o)) cs
   all_pass [] h w = tt
   all_pass (c ∷ cs) h w =
       let p = and_parts (keeps_to i o c) (all_keep i o cs) h in
       let q = and_parts (ltb c.outputs (2 ^ 32)) (all_words cs) w in
       (keeps_passes c p.0 (ltb-true c.outputs (2 ^ 32) q.0), all_pass cs p.1 q.1)
 
-  each_keeps : (cs : List Cube) → All (Passes cubes (within i o)) cs → all_keep i o cs ≡ true
+  each_keeps : (cs : List Cube) → AllByRecursion (Passes cubes (within i o)) cs → all_keep i o cs ≡ true
   each_keeps [] h = refl
   each_keeps (c ∷ cs) h = and_from _ _ (passes_keeps c h.0) (each_keeps cs h.1)
 
-  each_word : (cs : List Cube) → All (Passes cubes (within i o)) cs → all_words cs ≡ true
+  each_word : (cs : List Cube) → AllByRecursion (Passes cubes (within i o)) cs → all_words cs ≡ true
   each_word [] h = refl
   each_word (c ∷ cs) h =
       let w = passes_word c h.0 in
       let p : 2 ^ o ≤ 2 ^ 32 = pow_mono lo in
       and_from _ _ (lt-ltb c.outputs (2 ^ 32) (omega arith)) (each_word cs h.1)
 
-  all_last : (rows : List Cube) → all_keep i o rows ≡ true → all_words rows ≡ true → All (Passes cubes (within i o)) (shrunk rows)
+  all_last : (rows : List Cube) → all_keep i o rows ≡ true → all_words rows ≡ true → AllByRecursion (Passes cubes (within i o)) (shrunk rows)
   unfolding reduced_run refined_run
   all_last rows h w =
       let lasts = values_last cubes cubes_lawful (within i o) (joins_keep i o) in

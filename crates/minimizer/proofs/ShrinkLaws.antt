@@ -1,7 +1,7 @@
 -- The history of a load and two runs.
 -- Assumes nothing.
 use Rattle.std.proofs.Common.{◌≡◌, ℕ, ◌+◌, ◌-◌, ◌≤◌, min, List, [], ◌∷◌, ◌++◌, map, length, get_or, take, Ok, Err, sym, refl, ap, ◌∙◌, subst, arith, length-append}
-use Rattle.std.specs.List.{slice_get, AllByRecursion as All}
+use Rattle.std.specs.List.{slice_get, AllByRecursion}
 use Rattle.std.proofs.lemmas.List.{take_at, append-nil}
 use Rattle.std.proofs.lemmas.Bool.{cond-true, le-leb}
 use Rattle.esop.specs.Entering.{entered_all, spared_all}
@@ -116,7 +116,7 @@ entry_untouched (code.Linked r) c = absurd (let q : ◌≡◌ {A = ℕ} 0 1 = cc
 entry_untouched (code.Ran r) c = absurd (let q : ◌≡◌ {A = ℕ} 0 1 = cc in omega arith)
 
 pub untouched_by : (xs : List Code) (d : Code) (r s : RunSummary) → map call_said (take 3 xs) ≡ entry ∷ running ∷ running ∷ []
-    → r ≡ summary_from Reduce (said (get_or xs 1 d)) → s ≡ summary_from Refine (said (get_or xs 2 d)) → r.tried ≡ 0 → s.tried ≡ 0 → All Untouched (take 3 xs)
+    → r ≡ summary_from Reduce (said (get_or xs 1 d)) → s ≡ summary_from Refine (said (get_or xs 2 d)) → r.tried ≡ 0 → s.tried ≡ 0 → AllByRecursion Untouched (take 3 xs)
 untouched_by [] d r s c e f p q = absurd (let z : ◌≡◌ {A = ℕ} 0 1 = cc in omega arith)
 untouched_by (x ∷ []) d r s c e f p q = absurd (let z : ◌≡◌ {A = ℕ} 0 1 = cc in omega arith)
 untouched_by (x ∷ y ∷ []) d r s c e f p q = absurd (let z : ◌≡◌ {A = ℕ} 0 1 = cc in omega arith)
@@ -129,10 +129,10 @@ untouched_by (x ∷ y ∷ z ∷ xs) d r s c e f p q =
 -- the same for the requests of the code
 pub three_calls : (xs : List Code) (rs : List (Request' Cube Strategy)) (n : ℕ) → rs ≡ asks n → map call_said (take (length rs) xs) ≡ map call_asked rs
     → (r s : RunSummary) (d : Code) → r ≡ summary_from Reduce (said (get_or xs 1 d)) → s ≡ summary_from Refine (said (get_or xs 2 d)) → r.tried ≡ 0 → s.tried ≡ 0
-    → All Untouched (take (length rs) xs)
+    → AllByRecursion Untouched (take (length rs) xs)
 three_calls xs rs n is calls r s d e f p q =
     let three = ap length is in
-    subst (λ k. All Untouched (take k xs)) (sym three)
+    subst (λ k. AllByRecursion Untouched (take k xs)) (sym three)
     (untouched_by xs d r s (ap (λ k. map call_said (take k xs)) (sym three) ∙ calls ∙ ap (map call_asked) is) e f p q)
 
 -- the requests of the code are those of the history

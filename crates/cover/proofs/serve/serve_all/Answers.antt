@@ -1,5 +1,5 @@
 use Rattle.std.proofs.Common.{◌≡◌, length, take, refl, ◌∙◌, subst, arith, rules}
-use Rattle.std.specs.List.{AllByRecursion as All}
+use Rattle.std.specs.List.{AllByRecursion}
 use Rattle.cover.specs.Serving.{Untouched}
 use Rattle.cover.proofs.Turning.{turned_start, turned_more, turned_all, untouched_more}
 use Rattle.cover.proofs.serve.serve_all.Goals as goal
@@ -24,5 +24,5 @@ returns g c =
     let same = inv.1 ∙ c.open-cover.ensures.lender in
     record {
       all = turned_all g.P.Product.meaning g.C.Criterion.keeps c.open-cover.result.places.now c.args.list.now c.args.requests.now (length c.args.work.now) c.args.answers.now g.met.P.Product.lawful g.met.C.Criterion.strict c.loop-i.cover c.loop-i.answers c.loop-i.i inv.0 c.loop-i-test.false c.args.places.now _ c.open-cover.ensures.memory (search rules);
-      work = λ u. inv.2 (subst (λ n. All Untouched (take n c.loop-i.answers)) (let e : length c.args.requests.now ≡ c.loop-i.i = omega (arith, inv.0.within) in e) u);
+      work = λ u. inv.2 (subst (λ n. AllByRecursion Untouched (take n c.loop-i.answers)) (let e : length c.args.requests.now ≡ c.loop-i.i = omega (arith, inv.0.within) in e) u);
     }

@@ -1,5 +1,5 @@
 use Rattle.std.proofs.Common.{◌≡◌, length, take}
-use Rattle.std.specs.List.{AllByRecursion as All}
+use Rattle.std.specs.List.{AllByRecursion}
 use Rattle.cover.specs.Serving.{Untouched}
 use Rattle.cover.proofs.Turning.{Turned}
 use Rattle.cover.proofs.serve.serve_all.Given as goal
@@ -8,4 +8,4 @@ abbrev pub invariant-loop-i : goal.invariant-loop-i
 invariant-loop-i g l =
     Turned g.P.Product.meaning g.C.Criterion.keeps l.initial.cover.places.now l.list l.requests (length l.initial.work) l.initial.answers l.cover l.answers l.i
     × (l.cover.places.ghost_name ≡ l.initial.cover.places.ghost_name)
-    × (All Untouched (take l.i l.answers) → l.work ≡ l.initial.work)
+    × (AllByRecursion Untouched (take l.i l.answers) → l.work ≡ l.initial.work)
