@@ -10,9 +10,9 @@ abbrev pub Far : {P : Type 0} → Meaning P → P → List P → Type 0
 Far m a [] = Unit {0}
 Far m a (x ∷ c) = (2 ≤ distance m a x) × Far m a c
 
-abbrev pub All-apart : {P : Type 0} → Meaning P → List P → Type 0
-All-apart m [] = Unit {0}
-All-apart m (x ∷ c) = Far m x c × All-apart m c
+abbrev pub AllApart : {P : Type 0} → Meaning P → List P → Type 0
+AllApart m [] = Unit {0}
+AllApart m (x ∷ c) = Far m x c × AllApart m c
 
 module _ {P : Type 0} (m : Meaning P) where
   far_removed : (a : P) (c : List P) (i : ℕ) → Far m a c → Far m a (remove c i)
@@ -21,7 +21,7 @@ module _ {P : Type 0} (m : Meaning P) where
   far_removed a (x ∷ c) zero h = h.1
   far_removed a (x ∷ c) (suc i) h = (h.0, far_removed a c i h.1)
 
-  pub all_apart_removed : (c : List P) (i : ℕ) → All-apart m c → All-apart m (remove c i)
+  pub all_apart_removed : (c : List P) (i : ℕ) → AllApart m c → AllApart m (remove c i)
   all_apart_removed [] zero h = tt
   all_apart_removed [] (suc i) h = tt
   all_apart_removed (x ∷ c) zero h = h.1
@@ -31,7 +31,7 @@ module _ {P : Type 0} (m : Meaning P) where
   far_push a p [] h k = (k, tt)
   far_push a p (x ∷ c) h k = (h.0, far_push a p c h.1 k)
 
-  pub all_apart_push : (p : P) (c : List P) → Far m p c → All-apart m c → All-apart m (c ++ p ∷ [])
+  pub all_apart_push : (p : P) (c : List P) → Far m p c → AllApart m c → AllApart m (c ++ p ∷ [])
   all_apart_push p [] f h = (tt, tt)
   all_apart_push p (x ∷ c) f h = (far_push x p c h.0 (rw (distance_sym m x p) f.0), all_apart_push p c f.1 h.1)
 
@@ -40,7 +40,7 @@ module _ {P : Type 0} (m : Meaning P) where
   far_at a (x ∷ c) zero b f e = let z : x ≡ b = cc in rw (← z) f.0
   far_at a (x ∷ c) (suc j) b f e = far_at a c j b f.1 e
 
-  pub apart_from : (c : List P) → All-apart m c → Apart m c
+  pub apart_from : (c : List P) → AllApart m c → Apart m c
   apart_from [] h i j a b l ei ej = absurd (let z : ◌≡◌ {A = ℕ} 0 1 = cc in omega arith)
   apart_from (x ∷ c) h zero zero a b l ei ej = absurd (omega arith)
   apart_from (x ∷ c) h zero (suc j) a b l ei ej = let z : x ≡ a = cc in rw (← z) (far_at x c j b h.0 ej)
@@ -51,7 +51,7 @@ module _ {P : Type 0} (m : Meaning P) where
   far_from a [] h = tt
   far_from a (x ∷ c) h = (h 0 x refl, far_from a c (λ j b e. h (suc j) b e))
 
-  pub apart_to : (c : List P) → Apart m c → All-apart m c
+  pub apart_to : (c : List P) → Apart m c → AllApart m c
   apart_to [] h = tt
   apart_to (x ∷ c) h =
       (far_from x c (λ j b e. h 0 (suc j) x b (omega arith) refl e), apart_to c (λ i j a b l ei ej. h (suc i) (suc j) a b (omega arith) ei ej))

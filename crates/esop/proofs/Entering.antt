@@ -6,7 +6,7 @@ use Rattle.esop.specs.Kind.{Meaning, Laws, differing}
 use Rattle.esop.specs.Entering.{bit, covering, total_weight, Apart, seek, met, arrived, entered, entered_all, freed, spared_met, spared_arrived, spared, spared_all}
 use Rattle.esop.specs.Claims.{Enters}
 use Rattle.esop.proofs.Positions.{differ_nowhere, differ_once, join_parity, same_parity}
-use Rattle.esop.proofs.Apart.{Far, All-apart, all_apart_removed, all_apart_push, apart_from, apart_to}
+use Rattle.esop.proofs.Apart.{Far, AllApart, all_apart_removed, all_apart_push, apart_from, apart_to}
 use Rattle.esop.proofs.Seeking.{Near, Seen, seen}
 use Rattle.esop.proofs.Steps.{entered_is, spared_is}
 
@@ -28,7 +28,7 @@ module _ {P : Type 0} (m : Meaning P) (laws : Laws m) where
   -- p entered into c gives r, and leaves the free places s where they were free
   record Keeps (p : P) (c r : List P) (spare : List P → List P) : Type 0 where
     parity : (x : ℕ) → covering m x r % 2 ≡ (bit (m.covers p x) + covering m x c) % 2
-    apart : All-apart m c → All-apart m r
+    apart : AllApart m c → AllApart m r
     count : length r ≤ length c + 1
     size : (free : List P) → 1 ≤ length free → length r + length (spare free) ≡ length c + length free
 

@@ -160,15 +160,15 @@ module _ {P : Type 0} (m : Meaning P) (laws : Laws m) (f : ℕ → ℕ → Bool)
 
   module _ {Y : Type 0} (keeps : Y → Test) where
     -- a reply to the request r: where the products that it accepts pass, so do all in use
-    abbrev Holds-after : Request P Y → Reply P → Type 0
-    Holds-after r s = AllByRecursion Ok (handed_in s.answer r) → AllByRecursion Ok s.held.used
+    abbrev HoldsAfter : Request P Y → Reply P → Type 0
+    HoldsAfter r s = AllByRecursion Ok (handed_in s.answer r) → AllByRecursion Ok s.held.used
 
-    served_lasts : (h : Held P) (r : Request P Y) → AllByRecursion Ok h.used → Holds-after r (served m keeps h r)
+    served_lasts : (h : Held P) (r : Request P Y) → AllByRecursion Ok h.used → HoldsAfter r (served m keeps h r)
     unfolding served
     served_lasts h (enter p) hc =
-        cond_both (leb (length h.used + 1) (room h)) _ _ (Holds-after (enter p)) (λ _ hs. entering_lasts (p ∷ []) h.used hs hc) (λ _ _. hc)
+        cond_both (leb (length h.used + 1) (room h)) _ _ (HoldsAfter (enter p)) (λ _ hs. entering_lasts (p ∷ []) h.used hs hc) (λ _ _. hc)
     served_lasts h (enter_list ps) hc =
-        cond_both (leb (length h.used + length ps) (room h)) _ _ (Holds-after (enter_list ps)) (λ _ hs. entering_lasts ps h.used hs hc) (λ _ _. hc)
+        cond_both (leb (length h.used + length ps) (room h)) _ _ (HoldsAfter (enter_list ps)) (λ _ hs. entering_lasts ps h.used hs hc) (λ _ _. hc)
     served_lasts h (link_by y p q o w) hc = λ _. linked_lasts (keeps y) h p q o w hc
     served_lasts h (run_by y b w) hc = λ _. ran_lasts (keeps y) h b w hc
 

@@ -54,7 +54,7 @@ module _ {P : Type 0} (m : Meaning P) (laws : Laws m) where
   length_link a b o = length_path a b (order m a b o) ∙ length_arranged (distance m a b) o (differing m a b)
 
   -- One product of a link, and the link of the rest: t becomes the product one position nearer to b.
-  pub record One-nearer (t b next x : P) (o k f : ℕ) : Type 0 where
+  pub record OneNearer (t b next x : P) (o k f : ℕ) : Type 0 where
     pub closer : k - 1 ≡ distance m next b
     pub numbered : o % f < factorial (k - 1)
     pub splits : link m t b o ≡ x ∷ link m next b (o % f)
@@ -82,7 +82,7 @@ module _ {P : Type 0} (m : Meaning P) (laws : Laws m) where
         ∙ ap (λ k. m.joined t taken_first (m.taken t taken_first b) ∷ path m (m.taken t taken_first b) b (arranged k (o % factorial n) (differing m (m.taken t taken_first b) b))) (sym nearer)
 
   -- the same as code computes it, with k the distance and f the factorial of one less
-  pub link_step : (t b next x : P) (o k f d : ℕ) → 0 < k → k ≡ distance m t b → o < factorial k → f ≡ factorial (k - 1) → nth_difference m t b (o / f) ≡ Some d → next ≡ m.taken t d b → x ≡ m.joined t d next → One-nearer t b next x o k f
+  pub link_step : (t b next x : P) (o k f d : ℕ) → 0 < k → k ≡ distance m t b → o < factorial k → f ≡ factorial (k - 1) → nth_difference m t b (o / f) ≡ Some d → next ≡ m.taken t d b → x ≡ m.joined t d next → OneNearer t b next x o k f
   link_step t b next x o zero f d some is-k l is_f is-d is-next is_x = absurd (omega arith)
   link_step t b next x o (suc n) f d some is-k l is_f is-d is-next is_x =
       let less : suc n - 1 ≡ n = omega arith in

@@ -78,10 +78,10 @@ module _ {P : Type 0} (m : Meaning P) (test : Test) where
       go (inr f) = inr f
 
   -- what holds of runs with a budget of n
-  abbrev Runs-so : ℕ → Type 0
-  Runs-so n = (c : List P) (gs : List (Group P)) → Each (IsGroup m c) gs → Left c gs → Ran n c gs (run_from m test n c gs)
+  abbrev RunsSo : ℕ → Type 0
+  RunsSo n = (c : List P) (gs : List (Group P)) → Each (IsGroup m c) gs → Left c gs → Ran n c gs (run_from m test n c gs)
 
-  kept_one : (n : ℕ) → Runs-so n → (c : List P) (g : Group P) (gs : List (Group P)) → Each (IsGroup m c) (g ∷ gs) → says m test c g ≡ true → Ran (suc n) c (g ∷ gs) (after_trial g true (run_from m test n (result m c g) (groups m (result m c g))))
+  kept_one : (n : ℕ) → RunsSo n → (c : List P) (g : Group P) (gs : List (Group P)) → Each (IsGroup m c) (g ∷ gs) → says m test c g ≡ true → Ran (suc n) c (g ∷ gs) (after_trial g true (run_from m test n (result m c g) (groups m (result m c g))))
   kept_one n so c g gs h e =
       let d = result m c g in
       let r = so d (groups m d) (groups_are m d) (all_left d) in
@@ -95,7 +95,7 @@ module _ {P : Type 0} (m : Meaning P) (test : Test) where
         used_up = λ z. ap suc (r.used_up z);
       }
 
-  passed_one : (n : ℕ) → Runs-so n → (c : List P) (g : Group P) (gs : List (Group P)) → Each (IsGroup m c) (g ∷ gs) → Left c (g ∷ gs) → says m test c g ≡ false → Ran (suc n) c (g ∷ gs) (after_trial g false (run_from m test n c gs))
+  passed_one : (n : ℕ) → RunsSo n → (c : List P) (g : Group P) (gs : List (Group P)) → Each (IsGroup m c) (g ∷ gs) → Left c (g ∷ gs) → says m test c g ≡ false → Ran (suc n) c (g ∷ gs) (after_trial g false (run_from m test n c gs))
   passed_one n so c g gs h l e =
       let r = so c gs h.1 (one_less c g gs e l) in
       record {
@@ -132,7 +132,7 @@ module _ {P : Type 0} (m : Meaning P) (test : Test) where
         used_up = λ e. refl;
       }
 
-  runs_so : (n : ℕ) → Runs-so n
+  runs_so : (n : ℕ) → RunsSo n
   unfolding run_from
   runs_so zero c [] h l = nothing_left 0 c l
   runs_so zero c (g ∷ gs) h l = no_budget c g gs
