@@ -1,6 +1,6 @@
 // Putting text into memory: each function writes from a place on, and answers the place past what it wrote.
 ghost use Rattle.std.specs.Prelude.{◌≡◌, ◌+◌, ◌≤◌, length};
-ghost use Rattle.sheet.specs.Text.{digit as digitOf, decimal, field, line, heading_text, input_chars, output_chars, row_text, form_char, driven_char};
+ghost use Rattle.sheet.specs.Text.{digit as digit_of, decimal, field, line, heading_text, input_chars, output_chars, row_text, form_char, driven_char};
 ghost use Rattle.sheet.specs.Writing.{Put};
 
 use cube::{Cube, Form};
@@ -17,7 +17,7 @@ pub(crate) fn put(memory: &mut [u8], at: usize, text: &[u8]) -> usize
 
 // The character of the last decimal digit of n.
 fn digit(n: u32) -> u8
-    ensures { result ≡ digitOf n }
+    ensures { result ≡ digit_of n }
 {
     b'0' + (n % 10) as u8
 }
