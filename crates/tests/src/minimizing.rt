@@ -64,7 +64,7 @@ fn prints(rt: HostRuntime) {
     assert_eq!(rt; print_minimized(&mut text, 47), Some(107));
     assert_eq!(rt; text, PRINTOUT);
     assert_eq!(rt; print_minimized(&mut text, 46), Some(11));
-    assert!(rt; &text[0..11] == b"refused 26\n");
+    assert!(rt; &text[0..11] == b"refused 26\n".as_slice());
 }
 
 #[test]
@@ -72,5 +72,5 @@ fn memory_too_short(rt: HostRuntime) {
     let mut text = [0u8; 106];
     text[0..47].copy_from_slice(&SHEET);
     assert_eq!(rt; print_minimized(&mut text, 47), Some(11));
-    assert!(rt; &text[0..11] == b"refused 28\n");
+    assert!(rt; &text[0..11] == b"refused 28\n".as_slice());
 }
