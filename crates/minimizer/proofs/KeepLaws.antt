@@ -1,7 +1,6 @@
 -- What the runs leave keeps to the inputs and outputs that the rows keep to.
 -- Assumes nothing.
-use Rattle.std.proofs.Common.{◌≡◌, ℕ, ◌+◌, ◌-◌, ◌*◌, ◌%◌, ◌^◌, ◌<◌, ◌≤◌, Bool, true, false, not, cond, ◌&&◌, ◌||◌, eqb, ltb, List, [], ◌∷◌, sym, refl, ap, ◌∙◌, ap₂, ⊎_elim, div-lt_iff_lt-mul, arith, pow_pos}
-use Rattle.std.proofs.Math.Nat.{div-eq_of_lt}
+use Rattle.std.proofs.Common.{◌≡◌, ℕ, ◌+◌, ◌-◌, ◌*◌, ◌^◌, ◌<◌, ◌≤◌, Bool, true, false, not, cond, ◌&&◌, ◌||◌, eqb, ltb, List, [], ◌∷◌, sym, refl, ap, ◌∙◌, ap₂, ⊎_elim, div-lt_iff_lt-mul, arith, pow_pos}
 use Rattle.std.proofs.Math.Pow.{pow_mono}
 use lib.Bits.{bit_xor, xor_lt}
 use Rattle.std.specs.List.{AllByRecursion}
@@ -18,7 +17,7 @@ use Rattle.cube.specs.declared.cube.Form.TheVariants.{Absent}
 use Rattle.cube.specs.BitLaws.{bit_below}
 use Rattle.cube.specs.PositionLaws.{cubes_lawful}
 use Rattle.reader.proofs.BackLaws.{absent_bits, past_outputs}
-use Rattle.reader.proofs.SpellLaws.{over_same, zero_bit}
+use Rattle.reader.proofs.SpellLaws.{over_same, bit_above, zero_bit}
 use Rattle.reader.specs.Back.{all_words}
 use Rattle.sheet.specs.Text.{absent, keeps_at, keeps_to}
 use Rattle.sheet.specs.Writing.{all_keep}
@@ -48,10 +47,6 @@ joins_keep i o j u v ne p q =
     let b = ltb-true v (2 ^ o) (sym (cond-false _ _ _ f) ∙ q) in
     cond-false _ _ _ f ∙ lt-ltb (bit_xor u v) (2 ^ o) (xor_lt o u v a b))
     (cases_lt j 32)
-
--- a word below 2 ^ o has no bit from o on, and one of 32 bits that has none from o on is below 2 ^ o
-bit_above : (o j v : ℕ) → o ≤ j → v < 2 ^ o → bit v j ≡ 0
-bit_above o j v l h = let p : 2 ^ o ≤ 2 ^ j = pow_mono l in ap (λ (n : ℕ). n % 2) (div-eq_of_lt (omega arith))
 
 undriven : (c : Cube) (j : ℕ) → j < 32 → bit c.outputs j ≡ 0 → driven c j ≡ false
 undriven c j l e = ap₂ ◌&&◌ (lt-ltb j 32 l) (ap (λ b. eqb b 1) e)

@@ -23,7 +23,7 @@ use Rattle.reader.specs.Lines.{Shown, skipped, number, kind, end, dotted, row, p
 use Rattle.reader.specs.Reading.{Sheet, verdict, read}
 use Rattle.reader.specs.Rows.{form_words, driven_word, made_row, row_of_words, as_long, product_of}
 use Rattle.esop.proofs.Everywhere.{everywhere_all}
-use Rattle.reader.proofs.SpellLaws.{forms_char, word_char, FormsAre, WordIs, forms_read, word_read, input_chars_are, output_chars_are}
+use Rattle.reader.proofs.SpellLaws.{forms_char, word_char, FormsAre, WordIs, forms_read, bit_above, word_read, input_chars_are, output_chars_are}
 use Rattle.reader.proofs.StepLaws.{IsRow, AreRows, Right, Then, judged_right}
 
 -- a row is its two parts with a space between
@@ -145,8 +145,8 @@ row_keeps_at i o is os c w j lt =
 
     driven_past : o ≤ j → driven c j ≡ false
     driven_past l =
-        let e : length os + (j - length os) ≡ j = let q = p.1 in omega arith in
-        let z : bit c.outputs j ≡ 0 = ap (bit c.outputs) (sym e) ∙ w.word.past (j - length os) in
+        let q = p.1 in
+        let z : bit c.outputs j ≡ 0 = bit_above (length os) j c.outputs (omega arith) w.word.within in
         ap₂ ◌&&◌ (lt-ltb j 32 lt) (ap (λ b. eqb b 1) z)
 
 row_keeps_to : (i o : ℕ) (is os : List ℕ) (c : Cube) → WordsAre i o is os c → keeps_to i o c ≡ true

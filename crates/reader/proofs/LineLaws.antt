@@ -1,11 +1,9 @@
 -- The cuts of a text into lines, and of a line into its parts.
 -- Assumes nothing.
-use Rattle.std.proofs.Common.{◌≡◌, ℕ, zero, suc, ◌+◌, ◌-◌, ◌<◌, ◌≤◌, true, false, eqb, List, [], ◌∷◌, length, get_or, take, drop, codes, sym, ap, ◌∙◌, ap₂, ⊎_elim, arith}
-use Rattle.std.specs.Str.{bytes_eq}
-use Rattle.std.proofs.lemmas.Slice.Eq.{bytes_eq-Decides}
+use Rattle.std.proofs.Common.{◌≡◌, ℕ, zero, suc, ◌+◌, ◌-◌, ◌<◌, ◌≤◌, true, eqb, List, [], ◌∷◌, length, get_or, take, drop, sym, ap, ◌∙◌, ap₂, ⊎_elim, arith}
 use Rattle.std.proofs.lemmas.List.{take_rest, at_drop_more, at_drop_all, drop-drop, length-drop, drop_all}
 use Rattle.std.proofs.lemmas.Bool.{cond-true, cond-false, eq-eqb, ne_eqb, lt-ltb, cases_Bool}
-use Rattle.reader.specs.Lines.{ended, broken, push, pieces, number, kind, end, dotted, row, up_to, row_of, word_of, is_letter, dotted_of, class_of}
+use Rattle.reader.specs.Lines.{ended, broken, push, pieces, number, row, up_to, row_of, is_letter, dotted_of, class_of}
 
 pub upto_here : (b : ℕ) (l : List ℕ) (i : ℕ) → i < length l → get_or l i 0 ≡ b → up_to b (drop i l) ≡ 0
 upto_here b l i h e = at_drop_more (up_to b) l i 0 h ∙ cond-true _ _ _ (eq-eqb _ _ e)
@@ -70,22 +68,6 @@ next_broken t at n lt e h =
 
 pub next_done : (t : List ℕ) (at : ℕ) → length t ≤ at → pieces (drop at t) ≡ []
 next_done t at h = ap pieces (drop_all at t h)
-
--- a comparison of texts as a test
-same_yes : (xs ys : List ℕ) → xs ≡ ys → bytes_eq xs ys ≡ true
-same_yes xs ys e = (bytes_eq-Decides xs ys).1 e
-
-same_no : (xs ys : List ℕ) → (xs ≡ ys → ⊥) → bytes_eq xs ys ≡ false
-same_no xs ys ne = ⊎_elim (λ t. absurd (ne ((bytes_eq-Decides xs ys).0 t))) (λ f. f) (cases_Bool (bytes_eq xs ys))
-
-pub word_kind : (l : List ℕ) → l ≡ codes "type esop" → kind ≡ word_of l
-word_kind l e = sym (cond-true _ _ _ (same_yes l _ e))
-
-pub word_end : (l : List ℕ) → (l ≡ codes "type esop" → ⊥) → l ≡ codes "e" → end ≡ word_of l
-word_end l ne e = sym (cond-false _ _ _ (same_no l _ ne) ∙ cond-true _ _ _ (same_yes l _ e))
-
-pub word_none : (l : List ℕ) → (l ≡ codes "type esop" → ⊥) → (l ≡ codes "e" → ⊥) → dotted ≡ word_of l
-word_none l ne me = sym (cond-false _ _ _ (same_no l _ ne) ∙ cond-false _ _ _ (same_no l _ me))
 
 -- the part past the first character
 pub letter_is : (l : List ℕ) (c : ℕ) → 0 < length l → get_or l 0 0 ≡ c → is_letter c ≡ true → number c (take (length l - 1) (drop 1 l)) ≡ dotted_of l

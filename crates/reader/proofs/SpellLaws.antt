@@ -1,6 +1,8 @@
 -- A row spells its product: its characters are those of the words that are read from it.
 -- Assumes nothing.
 use Rattle.std.proofs.Common.{◌≡◌, ℕ, zero, suc, ◌+◌, ◌-◌, ◌*◌, ◌/◌, ◌%◌, ◌^◌, ◌<◌, ◌≤◌, cond, ◌&&◌, eqb, List, [], ◌∷◌, ◌++◌, length, Some, None, Option, sym, refl, ap, ◌∙◌, ap₂, div-lt_iff_lt-mul, pow-suc, arith, lit<, pow_pos, pow-add}
+use Rattle.std.proofs.Math.Nat.{div-eq_of_lt}
+use Rattle.std.proofs.Math.Pow.{pow_mono}
 use native.Mathlib.Nat.{div-div-eq-div-mul}
 use lib.Bits.{bit_or}
 use Rattle.std.proofs.lemmas.Bool.{cond-true, cond_both, lt-ltb, eqb-true}
@@ -101,7 +103,6 @@ driven_is c =
 
 pub record WordIs (cs : List ℕ) (u : ℕ) : Type 0 where
   pub spelled : chars (word_char u) (length cs) ≡ cs
-  pub past : (k : ℕ) → bit u (length cs + k) ≡ 0
   pub within : u < 2 ^ length cs
 
 abbrev WordRead : List ℕ → Option ℕ → Type 0
@@ -117,16 +118,19 @@ below_read c cs (Some d) (Some w) i r =
           chars_front _ (length cs)
           ∙ ap₂ ◌∷◌ (ap (λ a. driven_char (eqb a 1)) (low d w i.0) ∙ i.1)
           (chars_same _ _ (length cs) (λ j l. ap (λ a. driven_char (eqb a 1)) (high d w j i.0)) ∙ r.spelled);
-      past = λ k. past_suc d w (length cs) k i.0 ∙ r.past k;
       within = let p = pow-suc 2 (length cs) in let l = r.within in let b = i.0 in omega arith;
     }
+
+-- a word below 2 ^ o has no bit from o on
+pub bit_above : (o j v : ℕ) → o ≤ j → v < 2 ^ o → bit v j ≡ 0
+bit_above o j v l h = let p : 2 ^ o ≤ 2 ^ j = pow_mono l in ap (λ (n : ℕ). n % 2) (div-eq_of_lt (omega arith))
 
 pub zero_bit : (k : ℕ) → bit 0 k ≡ 0
 zero_bit zero = bit_zero 0
 zero_bit (suc k) = bit_suc 0 k ∙ zero_bit k
 
 pub word_read : (cs : List ℕ) → WordRead cs (driven_word cs)
-word_read [] = record { spelled = nothing _; past = λ k. let e : 0 + k ≡ k = omega arith in ap (bit 0) e ∙ zero_bit k; within = lit< tt }
+word_read [] = record { spelled = nothing _; within = lit< tt }
 word_read (c ∷ cs) = below_read c cs (driven_bit c) (driven_word cs) (driven_is c) (word_read cs)
 
 -- what is read from the characters of two words is those words
