@@ -1,1 +1,3 @@
 pub mod PackingLaws
+pub mod RangeLaws
+pub mod WeightLaws

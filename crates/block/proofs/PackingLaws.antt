@@ -11,6 +11,7 @@ use Rattle.cube.specs.Covering.{value, meets, covers}
 use Rattle.cube.specs.declared.cube.Cube.{Cube}
 use Rattle.cube.specs.declared.cube.Form.{Form}
 use Rattle.cube.specs.declared.cube.Form.TheVariants.{Negative, Positive, Absent}
+use Rattle.cube.proofs.CodeLaws.{same_tests}
 use Rattle.cube.proofs.CoveringLaws.{form_value, absent_meets, value_form}
 use Rattle.block.specs.Bytes.{sound}
 use Rattle.block.specs.Blocks as blocks
@@ -166,12 +167,7 @@ module _ (c : Cube) (keeps : keeps_inputs c ≡ true) (out : c.outputs ≡ 1) (x
       ∙ and_from _ _ (everywhere_at (lets c x) 33 (3 * g) (omega arith) h)
       (and_from _ _ (everywhere_at (lets c x) 33 (3 * g + 1) (omega arith) h) (everywhere_at (lets c x) 33 (3 * g + 2) (omega arith) h)))
 
-  both : (a b : Bool) → (a ≡ true → b ≡ true) → (b ≡ true → a ≡ true) → a ≡ b
-  both true b f g = sym (f refl)
-  both false true f g = g refl
-  both false false f g = refl
-
   pub same_covering : covered (blocks.made (packed_bytes c)) x ≡ covers c x
   same_covering =
       ap (λ t. t && everywhere (λ g. passes g (blocks.value (blocks.made (packed_bytes c)) g) x) 8) (lt-ltb x (2 ^ 24) below)
-      ∙ both _ _ to_cube to_block
+      ∙ same_tests _ _ to_cube to_block

@@ -1,30 +1,20 @@
 -- Block products keep the laws of a kind of product.
 -- Assumes nothing.
-use Rattle.std.specs.Prelude.{◌≡◌, ℕ, zero, suc, ◌+◌, ◌*◌, ◌/◌, ◌%◌, ◌^◌, ◌<◌, ◌≤◌, Bool, true, false, cond, not, ◌&&◌, List, [], ◌∷◌, ◌++◌, length, take, ◌==◌, ◌≢◌, nat_eq, nat_lt, slice_index, slice_set, refl}
-use Rattle.std.proofs.Common.{sym, ap, ◌∙◌, inl, inr, mod-lt, zero-lt-suc, mul_comm, mul_assoc, mul-le-mul, add-one, arith, length-take, take-suc, get_or-set_same, get_or-set_other}
+use Rattle.std.specs.Prelude.{◌≡◌, ℕ, suc, ◌^◌, ◌<◌, ◌≤◌, Bool, true, false, cond, not, ◌&&◌, List, [], ◌∷◌, length, ◌==◌, ◌≢◌, nat_lt, slice_index, slice_set, refl}
+use Rattle.std.proofs.Common.{sym, ap, ◌∙◌, inl, inr, mul-le-mul, arith, get_or-set_same, get_or-set_other}
 use Rattle.std.proofs.Math.Nat.{pow-succ', pow-le-pow_right}
-use Rattle.std.specs.Int.Bits.{bit_xor, xor_assoc, xor_self, xor_zero_l, xor_zero_r}
-use Rattle.std.proofs.lemmas.Nat.{xor_shr, xor_mod}
+use Rattle.std.specs.Int.Bits.{bit_xor}
 use Rattle.std.proofs.lemmas.Bool.{eqb-false, eq-eqb, ne_eqb, ltb-true, lt-ltb, le-ltb, and_parts, and_right, cases_eq, cases_lt, cond-true, cond-false, not-true}
 use Rattle.esop.specs.Kind.{Positions, Laws, differs, either}
 use Rattle.esop.specs.Positionwise.{everywhere}
 use Rattle.esop.proofs.Positionwise.{and_either, positionwise_lawful}
+use Rattle.cube.specs.BitLaws.{xor_some}
+use Rattle.cube.specs.PositionLaws.{mixed_bit}
 use Rattle.block.specs.Blocks.{made, value}
-use Rattle.block.specs.Sizes.{size_of}
-use Rattle.block.specs.Products.{bit, group, passes, taken, joined, weight_of, blocks}
+use Rattle.block.specs.Products.{group, passes, taken, joined, weight_of, blocks}
 use Rattle.block.specs.declared.block.BlockProduct.{BlockProduct}
 use Rattle.block.specs.MakingLaws.{made_bytes, bytes_length, value_nonzero, sound_set}
 use Rattle.block.specs.SizeLaws.{size_most}
-
--- the exclusive or of two different numbers is not 0
-pub xor_nonzero : (u v : ℕ) → (u ≢ v) → 0 < bit_xor u v
-xor_nonzero u v ne =
-    elim (cases_lt 0 (bit_xor u v)) [
-      | inl l ↦ l
-      | inr z ↦
-          (let none : bit_xor u v ≡ 0 = omega arith in
-          absurd (ne (sym (xor_zero_r u) ∙ ap (bit_xor u) (sym (xor_self v)) ∙ sym (xor_assoc u v v) ∙ ap (λ n. bit_xor n v) none ∙ xor_zero_l v)))
-    ]
 
 -- the bytes after one of them is replaced
 set_at : (bs : List ℕ) (g b j : ℕ) → g < length bs → slice_index (slice_set bs g b) j ≡ cond (g == j) b (slice_index bs j)
@@ -66,7 +56,7 @@ differ_values a b g d =
 join_value : (a b : BlockProduct) (i j : ℕ) → differs blocks a b i ≡ true → value (joined a i b) j ≡ cond (i == j) (bit_xor (value a i) (value b i)) (value a j)
 join_value a b i j d =
     let (inside, apart) = differ_values a b i d in
-    ap (λ p. value p j) (cond-true _ _ _ d) ∙ replaced_value a i (bit_xor (value a i) (value b i)) j inside (xor_nonzero (value a i) (value b i) apart)
+    ap (λ p. value p j) (cond-true _ _ _ d) ∙ replaced_value a i (bit_xor (value a i) (value b i)) j inside (xor_some (value a i) (value b i) apart)
 
 positions : Positions blocks
 positions =
@@ -89,24 +79,6 @@ weight_most bs l =
     let here = weight_pow bs in
     omega arith
 
--- the weight of some of the bytes of a product, and one size more, fit 32 bits
-pub weight_fits : (bs : List ℕ) (i w n b : ℕ) → i ≤ 8 → w ≡ weight_of (take i bs) → n ≡ size_of b → w * n < 2 ^ 32
-weight_fits bs i w n b l p q =
-    let short = length-take i bs in
-    let front : w ≤ 6561 = rw p (weight_most (take i bs) (omega arith)) in
-    let last : n ≤ 3 = rw q (size_most b) in
-    let both : w * n ≤ 6561 * 3 = mul-le-mul front last in
-    omega arith
-
-weight_push : (bs : List ℕ) (b : ℕ) → weight_of (bs ++ b ∷ []) ≡ weight_of bs * size_of b
-weight_push [] b = mul_comm (size_of b) 1
-weight_push (c ∷ cs) b = ap (λ n. size_of c * n) (weight_push cs b) ∙ sym (mul_assoc (size_of c) (weight_of cs) (size_of b))
-
--- one byte more
-pub weight_more : (bs : List ℕ) (i : ℕ) → i < length bs → weight_of (take (i + 1) bs) ≡ weight_of (take i bs) * size_of (slice_index bs i)
-weight_more bs i l =
-    ap (λ k. weight_of (take k bs)) (add-one i) ∙ ap weight_of (take-suc bs i 0 l) ∙ weight_push (take i bs) (slice_index bs i)
-
 -- position g with byte b lets the point through, of which there are 2 ^ 24
 abbrev meets : ℕ → ℕ → ℕ → Bool
 meets g b x = nat_lt x (2 ^ 24) && passes g b x
@@ -117,25 +89,9 @@ unfolding everywhere
 everywhere_and true f n = refl
 everywhere_and false f n = sym (and_right _ _ refl)
 
-bit_of_xor : (a b i : ℕ) → bit (bit_xor a b) i ≡ bit_xor (bit a i) (bit b i)
-bit_of_xor a b i = ap (λ n. n % 2) (xor_shr a b i) ∙ xor_mod (a / 2 ^ i) (b / 2 ^ i) 1
-
-bit_below : (n i : ℕ) → bit n i < 2
-bit_below n i = mod-lt (n / 2 ^ i) (zero-lt-suc 1)
-
--- of two bits exactly one is 1
-xor_either : (s t : ℕ) → s < 2 → t < 2 → (bit_xor s t == 1) ≡ either (s == 1) (t == 1)
-xor_either zero zero h k = refl
-xor_either zero (suc zero) h k = refl
-xor_either zero (suc (suc t)) h k = absurd (omega arith)
-xor_either (suc zero) zero h k = refl
-xor_either (suc zero) (suc zero) h k = refl
-xor_either (suc zero) (suc (suc t)) h k = absurd (omega arith)
-xor_either (suc (suc s)) t h k = absurd (omega arith)
-
 mixed_meets : (g u v x : ℕ) → meets g (bit_xor u v) x ≡ either (meets g u x) (meets g v x)
 mixed_meets g u v x =
-    ap (λ t. nat_lt x (2 ^ 24) && t) (ap (λ n. nat_eq n 1) (bit_of_xor u v (group x g)) ∙ xor_either _ _ (bit_below u (group x g)) (bit_below v (group x g)))
+    ap (λ t. nat_lt x (2 ^ 24) && t) (mixed_bit u v (group x g))
     ∙ and_either (nat_lt x (2 ^ 24)) (passes g u x) (passes g v x)
 
 pub lawful : Laws blocks

@@ -127,6 +127,9 @@ fewest b l =
       no_fewer = λ cs h e. subst (λ m. size_of m ≤ length cs) e (no_shorter cs h);
     }
 
+pub fewest_is : (b n : ℕ) → n ≡ size_of b → b < 2 ^ 8 → Fewest b n
+fewest_is b n e l = subst (Fewest b) (sym e) (fewest b l)
+
 -- no byte takes more than three cubes
 all_small : below (λ b. leb (size_of b) 3) 256 ≡ true
 unfolding below

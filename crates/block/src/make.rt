@@ -1,9 +1,11 @@
 // Making block products, and looking at their bytes.
 ghost use Rattle.std.specs.Prelude.{◌≡◌, ◌<◌, true, slice_set};
 ghost use Rattle.block.specs.Bytes.{sound};
-ghost use Rattle.block.specs.Blocks.{made, created, value, number};
+ghost use Rattle.block.specs.Blocks.{made, created, value};
+ghost use Rattle.block.specs.Blocks;
 
 use crate::block::{BlockProduct, BlockRefusal};
+use esop::refusal::Refusal;
 
 // The one place where a product is put together.
 fn assembled(bytes: [u8; 8]) -> BlockProduct
@@ -13,43 +15,13 @@ fn assembled(bytes: [u8; 8]) -> BlockProduct
     BlockProduct { bytes }
 }
 
-// The product with byte g replaced.
-pub(crate) fn replaced(product: BlockProduct, g: usize, byte: u8) -> BlockProduct
-    requires { (g < 8) × (0 < byte) }
-    ensures { result ≡ made (slice_set product.bytes g byte) }
-{
-    let mut bytes = product.bytes;
-    bytes[g] = byte;
-    assembled(bytes)
-}
-
-// Byte g of the product, which is not 0.
-pub(crate) fn byte_at(product: BlockProduct, g: usize) -> u8
-    requires { g < 8 }
-    ensures which { result ≡ value product g }
-    ensures nonzero { 0 < result }
-{
-    product.bytes[g]
-}
-
-// Whether none of the bytes is 0.
-fn all_nonzero(bytes: [u8; 8]) -> bool
-    ensures { result ≡ sound bytes }
-{
-    for g in 0..8 {
-        if bytes[g] == 0 {
-            return false;
-        }
-    }
-    true
-}
-
 impl BlockProduct {
     // The product of eight bytes, of which none may be 0.
+    #[tactic(auto, using(crate::specs::MakingLaws::sound_without, crate::specs::MakingLaws::unsound_with))]
     pub fn new(bytes: [u8; 8]) -> Result<BlockProduct, BlockRefusal>
         ensures { result ≡ created bytes }
     {
-        if !all_nonzero(bytes) {
+        if bytes.contains(&0) {
             return Err(BlockRefusal::ZeroByte);
         }
         Ok(assembled(bytes))
@@ -59,18 +31,26 @@ impl BlockProduct {
     pub fn byte(&self, g: usize) -> u8
         ensures { result ≡ value self.now g }
     {
-        if g >= 8 {
-            return 0;
-        }
-        byte_at(*self, g)
+        self.bytes.get(g).copied().unwrap_or(0)
+    }
+
+    // The product with byte g replaced.
+    #[tactic(auto, using(crate::specs::MakingLaws::sound_set))]
+    pub(crate) fn replaced(self, g: usize, byte: u8) -> BlockProduct
+        requires position { g < 8 }
+        requires nonzero { 0 < byte }
+        ensures { result ≡ made (slice_set self.bytes g byte) }
+    {
+        let mut bytes = self.bytes;
+        bytes[g] = byte;
+        assembled(bytes)
     }
 }
 
-impl BlockRefusal {
-    // The number under which it is reported.
-    pub fn number(self) -> u8
-        ensures { result ≡ number self }
-    {
+impl Refusal for BlockRefusal {
+    ghost number = { Blocks.number };
+
+    fn number(self) -> u8 {
         match self {
             BlockRefusal::ZeroByte => 10,
         }

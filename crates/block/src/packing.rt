@@ -2,11 +2,14 @@
 ghost use Rattle.std.specs.Prelude.{◌≡◌, ℕ, ◌^◌, ◌<◌, true};
 ghost use Rattle.cube.specs.Covering.{covers};
 ghost use Rattle.block.specs.Blocks.{made};
-ghost use Rattle.block.specs.Packing.{form_table, is_absent, keeps_inputs, number, packed, packed_byte, packed_bytes, SameCovering};
+ghost use Rattle.block.specs.Packing.{form_table, keeps_inputs, packed, packed_byte, packed_bytes, SameCovering};
 ghost use Rattle.block.specs.Products.{covered};
+ghost use Rattle.block.specs.Packing;
 
 use crate::block::{BlockProduct, PackRefusal};
 use cube::{Cube, Form};
+use esop::refusal::Refusal;
+use std::array;
 
 // The truth table of an input in a form; `own` is that of the input itself.
 fn form_table(form: Form, own: u8) -> u8
@@ -20,6 +23,7 @@ fn form_table(form: Form, own: u8) -> u8
 }
 
 // The truth table of the cube's inputs 3g to 3g + 2.
+#[tactic(auto, unfolding(crate::specs::Packing::packed_byte))]
 fn packed_byte(cube: &Cube, g: u32) -> u8
     requires { g < 8 }
     ensures { result ≡ packed_byte cube.now g }
@@ -34,58 +38,26 @@ fn packed_byte(cube: &Cube, g: u32) -> u8
 fn packed_bytes(cube: &Cube) -> [u8; 8]
     ensures { result ≡ packed_bytes cube.now }
 {
-    [
-        packed_byte(cube, 0),
-        packed_byte(cube, 1),
-        packed_byte(cube, 2),
-        packed_byte(cube, 3),
-        packed_byte(cube, 4),
-        packed_byte(cube, 5),
-        packed_byte(cube, 6),
-        packed_byte(cube, 7),
-    ]
-}
-
-// The product of the eight truth tables: none of them is 0.
-fn packed_product(cube: &Cube) -> BlockProduct
-    ensures { result ≡ made (packed_bytes cube.now) }
-{
-    match BlockProduct::new(packed_bytes(cube)) {
-        Ok(product) => product,
-        Err(_) => unreachable(),
-    }
-}
-
-// Whether the input is not looked at.
-fn is_absent(form: Form) -> bool
-    ensures { result ≡ is_absent form }
-{
-    match form {
-        Form::Negative => false,
-        Form::Positive => false,
-        Form::Absent => true,
-    }
+    array::from_fn(|g| packed_byte(cube, g as u32))
 }
 
 // Whether the inputs from 24 on are absent.
 fn keeps_inputs(cube: &Cube) -> bool
     ensures { result ≡ keeps_inputs cube.now }
 {
-    for j in 0..8 {
-        if !is_absent(cube.form(24 + j)) {
-            return false;
-        }
-    }
-    true
+    (24..32).all(|i| cube.form(i) == Form::Absent)
 }
 
-// The answer, once the cube has no input from 24 on and drives output 0 alone.
+// The product of the eight truth tables, of which none is 0. It is the answer where the cube has no input from 24 on and
+// drives output 0 alone.
+#[tactic(auto, using(crate::proofs::PackingLaws::bytes_sound, crate::proofs::PackingLaws::same_covering))]
 fn packed_same(cube: &Cube) -> BlockProduct
-    requires { (keeps_inputs cube.now ≡ true) × (cube.now.outputs ≡ 1) }
+    requires inputs { keeps_inputs cube.now ≡ true }
+    requires output { cube.now.outputs ≡ 1 }
     ensures exact { result ≡ made (packed_bytes cube.now) }
     ensures same { (x : ℕ) → x < 2 ^ 24 → covered result x ≡ covers cube.now x }
 {
-    packed_product(cube)
+    BlockProduct::new(packed_bytes(cube)).unwrap()
 }
 
 // The block product that covers the same of the points below 2^24 as the cube.
@@ -102,11 +74,10 @@ pub fn pack(cube: &Cube) -> Result<BlockProduct, PackRefusal>
     Ok(packed_same(cube))
 }
 
-impl PackRefusal {
-    // The number under which it is reported.
-    pub fn number(self) -> u8
-        ensures { result ≡ number self }
-    {
+impl Refusal for PackRefusal {
+    ghost number = { Packing.number };
+
+    fn number(self) -> u8 {
         match self {
             PackRefusal::Input => 11,
             PackRefusal::Output => 12,

@@ -30,18 +30,10 @@ fn looked_up(byte: u8) -> u8
     SIZES[byte as usize]
 }
 
-// The size of the byte, which is the fewest.
-fn fewest_of(byte: u8) -> u8
-    ensures exact { result ≡ size_of byte }
-    ensures fewest { Fewest byte result }
-{
-    looked_up(byte)
-}
-
 // The fewest cubes of three inputs whose exclusive or is the byte.
 pub fn size(byte: u8) -> u8
     ensures exact { result ≡ size_of byte }
     ensures fewest { Fewest byte result }
 {
-    fewest_of(byte)
+    looked_up(byte)
 }

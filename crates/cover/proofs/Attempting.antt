@@ -1,14 +1,10 @@
 -- Counts and questions of a trial.
-use Rattle.std.proofs.Common.{◌≡◌, ℕ, ◌+◌, ◌<◌, ◌≤◌, Bool, true, false, leb, List, length, take, drop, sym, refl, ap, ◌∙◌, ap₂, arith, take-append-drop}
+use Rattle.std.proofs.Common.{◌≡◌, ℕ, ◌+◌, ◌<◌, ◌≤◌, Bool, true, false, leb, List, length, sym, refl, ap, ◌∙◌, arith}
 use Rattle.std.proofs.lemmas.List.{length-take-le}
 use Rattle.std.proofs.lemmas.Bool.{leb-true, leb-false, cond-true, cond-false}
 use Rattle.esop.specs.Kind.{Meaning}
-use Rattle.esop.specs.Criterion.{Test}
-use Rattle.esop.specs.Entering.{total_weight}
-use Rattle.esop.specs.Linking.{Group, IsGroup, span, result, says}
-use Rattle.esop.specs.History.{replaced, ran_by}
-use Rattle.esop.proofs.Linking.{nth_is}
-use Rattle.cover.specs.Holding.{used, held_of}
+use Rattle.esop.specs.History.{ran_by}
+use Rattle.cover.specs.Holding.{used}
 use Rattle.cover.specs.Recording.{Supplied}
 use Rattle.cover.specs.declared.memory.Cover.{Cover}
 
@@ -19,19 +15,6 @@ module _ {P : Type 0} {N : ℕ} where
 
   pub count_of : (c : Cover P N) (xs : List P) → used c ≡ xs → c.count ≡ length xs
   count_of c xs e = sym (count_is c) ∙ ap length e
-
-  -- the second place of a group is in use
-  pub in_use : {m : Meaning P} (c : Cover P N) (g : Group P) → IsGroup m (used c) g → g.second < c.count
-  in_use c g i = omega (arith, (nth_is (used c) g.second g.b i.at_second).0, count_is c)
-
-  -- what the criterion is asked, by counts and weights
-  pub verdict_is : (m : Meaning P) (test : Test) (c : Cover P N) (g : Group P) (k n w n' w' : ℕ) → k ≡ span m g → n ≡ c.count → w ≡ total_weight m (used c) → n' ≡ length (result m (used c) g) → w' ≡ total_weight m (result m (used c) g) → test k n w n' w' ≡ says m test (used c) g
-  verdict_is m test c g k n w n' w' ek en ew en' ew' = let e : n ≡ length (used c) = en ∙ sym (count_is c) in cc
-
-  -- another list was written over the first places
-  pub written_is : (c : Cover P N) (xs zs : List P) → take (length xs) zs ≡ xs → drop (length xs) zs ≡ drop (length xs) c.places.now → record { used = take (length xs) zs; free = drop (length xs) zs } ≡ replaced (held_of c) xs
-  written_is c xs zs list rest =
-      ap₂ (λ us fs. record { used = us; free = fs }) list (rest ∙ ap (drop (length xs)) (sym (take-append-drop c.count c.places.now)))
 
 module _ {P : Type 0} {N : ℕ} (m : Meaning P) (c : Cover P N) (work : ℕ) where
   -- question 6, by what is counted

@@ -1,6 +1,5 @@
 pub mod Shifting
 pub mod Settling
-pub mod Copying
 pub mod Judging
 pub mod Attempting
 pub mod Tallying

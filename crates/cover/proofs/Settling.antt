@@ -1,16 +1,21 @@
 -- A round of entering, over a memory xs whose first n places are in use.
-use Rattle.std.proofs.Common.{◌≡◌, ℕ, ◌+◌, ◌-◌, ◌<◌, ◌≤◌, leb, List, [], ◌∷◌, ◌++◌, length, get_or, take, drop, set, Some, None, sym, refl, ap, ◌∙◌, ap₂, arith, take-append-drop}
-use Rattle.std.specs.List.{slice_get, remove}
-use Rattle.std.proofs.lemmas.List.{length-take-le, get_or-take, drop-append-le, take_more_set, drop-set-lt, drop-drop}
-use Rattle.std.proofs.lemmas.Bool.Decides.{nat_tests}
+use Rattle.std.proofs.Common.{◌≡◌, ℕ, suc, ◌+◌, ◌-◌, ◌<◌, ◌≤◌, Bool, true, false, cond, not, leb, ltb, position, List, [], ◌∷◌, ◌++◌, length, get_or, take, drop, set, Some, None, sym, refl, ap, ◌∙◌, ap₂, arith, take-append-drop}
+use Rattle.std.specs.List.{slice_get, remove, position_or_len}
+use Rattle.std.proofs.lemmas.List.{length-take-le, drop-append-le, take_more_set, drop-set-lt, drop-drop}
+use Rattle.std.proofs.lemmas.Bool.{cond-true, cond-false, lt-ltb, le-ltb, ltb-true, ltb-false}
 use Rattle.esop.specs.Kind.{Meaning, Laws, differing, distance, nth_difference}
-use Rattle.esop.specs.Entering.{seek, entered, entered_all, freed, spared, spared_all}
+use Rattle.esop.specs.Entering.{further, seek, entered, entered_all, freed, spared, spared_all}
 use Rattle.esop.proofs.Entering.{all_count}
-use Rattle.esop.proofs.Seeking.{seek_found}
+use Rattle.esop.proofs.Linking.{nth_is}
+use Rattle.esop.proofs.Seeking.{seek_nil, seek_cons, seek_found}
 use Rattle.esop.proofs.Steps.{entered_none, spared_none, entered_same, spared_same, entered_join, spared_join, entered_all_nil, entered_all_cons, spared_all_nil, spared_all_cons}
-use Rattle.cover.specs.Holding.{used, free}
+use Rattle.cover.specs.Holding.{used, free, SameLoan}
 use Rattle.cover.specs.Calls.{Entries}
 use Rattle.cover.specs.declared.memory.Cover.{Cover}
+
+-- a loan that stays, and stays again
+pub SameLoan-trans : {P : Type 0} {N : ℕ} {c d e : Cover P N} → SameLoan c d → SameLoan d e → SameLoan c e
+SameLoan-trans f s = record { size = s.size ∙ f.size; lender = s.lender ∙ f.lender }
 
 -- products that differ nowhere
 nowhere : {P : Type 0} (m : Meaning P) (p q : P) → nth_difference m p q 0 ≡ None → distance m p q ≡ 0
@@ -21,6 +26,20 @@ nowhere m p q e = go (differing m p q) e
     go (d ∷ ds) e = absurd (let z : ◌≡◌ {A = ℕ} 0 1 = cc in omega arith)
 
 module _ {P : Type 0} (m : Meaning P) where
+  -- what is sought is the first place that passes a test
+  pub position_is : (p : P) (c : List P) → position (λ x. leb (distance m p x) 1) c ≡ seek m p c
+  position_is p [] = sym (seek_nil m p)
+  position_is p (x ∷ c) =
+      go (leb (distance m p x) 1) ∙ ap (λ o. cond (leb (distance m p x) 1) (Some 0) (further o)) (position_is p c) ∙ sym (seek_cons m p x c)
+    where
+      later : (n : ℕ) (t : Bool) → ltb n (length c) ≡ t → cond (ltb (1 + n) (suc (length c))) (Some (1 + n)) None ≡ further (cond t (Some n) None)
+      later n true e = cond-true _ _ _ (lt-ltb (1 + n) (suc (length c)) (let h = ltb-true _ _ e in omega arith)) ∙ ap Some (omega arith)
+      later n false e = cond-false _ _ _ (le-ltb (1 + n) (suc (length c)) (let h = ltb-false _ _ e in omega arith))
+
+      go : (t : Bool) → let n = position_or_len (λ x. leb (distance m p x) 1) c in cond (ltb (cond (not t) (1 + n) 0) (suc (length c))) (Some (cond (not t) (1 + n) 0)) None ≡ cond t (Some 0) (further (position (λ x. leb (distance m p x) 1) c))
+      go true = cond-true _ _ _ (lt-ltb 0 (suc (length c)) (omega arith))
+      go false = later _ _ refl
+
   -- a list of one product
   pub entered_alone : (p : P) (c : List P) → entered m p c ≡ entered_all m (p ∷ []) c
   entered_alone p c = sym (entered_all_cons m p [] c ∙ entered_all_nil m (entered m p c))
@@ -43,9 +62,9 @@ module _ {P : Type 0} (m : Meaning P) where
       found_below = omega (arith, (seek_found m p (take n xs) i (sym found)).within, length-take-le n xs fits)
 
       -- it was read as q and removed, which leaves the products us and the free places fs
-      module _ (q : P) (read : q ≡ get_or xs i q) (us fs : List P) (list : us ≡ remove (take n xs) i) (rest : fs ≡ drop (n - 1) xs) where
+      module _ (q : P) (read : slice_get (take n xs) i ≡ Some q) (us fs : List P) (list : us ≡ remove (take n xs) i) (rest : fs ≡ drop (n - 1) xs) where
         read_used : q ≡ get_or (take n xs) i q
-        read_used = read ∙ sym (get_or-take n xs i q found_below)
+        read_used = sym (nth_is (take n xs) i q read).1
 
         left_free : fs ≡ freed (take n xs) (drop n xs)
         left_free = let h = found_below in rest ∙ sym (freed_is (omega arith))
@@ -73,10 +92,6 @@ module _ {P : Type 0} (m : Meaning P) where
       take_more_set xs n p h ∙ sym (entered_none m p (take n xs) (sym none)),
       drop-set-lt (n + 1) xs n p (omega arith) ∙ sym (drop-drop 1 n xs) ∙ sym (spared_none m p (take n xs) (drop n xs) (sym none)),
     )
-
--- the question whether there is a place for each of k more products, where n of the b places are taken and r are left
-pub same_question : (k r n b : ℕ) → r ≡ b - n → n ≤ b → leb k r ≡ leb (n + k) b
-same_question k r n b e h = grind (arith, nat_tests)
 
 -- one product entered, of several to enter in turn
 module _ {P : Type 0} {N : ℕ} (m : Meaning P) where

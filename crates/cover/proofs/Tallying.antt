@@ -3,8 +3,9 @@ use Rattle.std.proofs.Common.{◌≡◌, ℕ, zero, suc, ◌+◌, ◌≤◌, Boo
 use Rattle.esop.specs.Kind.{Meaning}
 use Rattle.esop.specs.Entering.{bit}
 use Rattle.esop.specs.Linking.{Group, span, result}
-use Rattle.esop.specs.Running.{Rows, Ending, Trial, Outcome, after_trial, trial_rows, all_tried}
-use Rattle.esop.specs.History.{Held, ran, replaced, reported, after_run}
+use Rattle.esop.specs.Running.{Rows, Trial, Outcome, after_trial, trial_rows, all_tried}
+use Rattle.esop.specs.declared.ending.End.{End}
+use Rattle.esop.specs.History.{Held, ran, replaced, after_run}
 use Rattle.cover.specs.Recording.{noted, blank, Sensible}
 use Rattle.cover.specs.Rounds.{plus, final}
 
@@ -16,9 +17,6 @@ same_rows p q r s t u = cc
 
 plus_blank : (s : Rows) → plus s blank ≡ s
 plus_blank s = same_rows (omega arith) (omega arith) (omega arith) (omega arith) (omega arith) (omega arith)
-
-blank_plus : (s : Rows) → plus blank s ≡ s
-blank_plus s = same_rows (omega arith) (omega arith) (omega arith) (omega arith) (omega arith) (omega arith)
 
 one : (k : ℕ) → 2 ≤ k → k ≤ 4 → bit (eqb k 2) + bit (eqb k 3) + bit (eqb k 4) ≡ 1
 one zero l u = absurd (omega arith)
@@ -50,10 +48,6 @@ module _ {P : Type 0} (m : Meaning P) where
       let four = ap (λ n. bit (eqb n 4)) e in
       same_rows (omega arith) (omega arith) (omega arith) (omega arith) (omega arith) (omega arith)
 
-  -- at the start nothing is recorded
-  pub final_start : (h : Held P) (r : Outcome P) → final m h blank r ≡ reported m h r
-  final_start h r = ap (λ t. record { answer = ran r.ending t; held = after_run m h r }) (blank_plus (trial_rows m r.trials))
-
   -- one trial more, of a link that was kept
   pub final_kept : (h : Held P) (s : Rows) (g : Group P) (k : ℕ) (r : Outcome P) → k ≡ span m g → final m h s (after_trial g true r) ≡ final m (replaced h (result m h.used g)) (noted k true s) r
   final_kept h s g k r e =
@@ -64,5 +58,5 @@ module _ {P : Type 0} (m : Meaning P) where
   final_not h s g k r e = ap (λ t. record { answer = ran r.ending t; held = after_run m h r }) (rows_trial s g k false r.trials e)
 
   -- nothing more is tried
-  pub final_end : (h : Held P) (s : Rows) (e : Ending) → final m h s (record { cover = h.used; ending = e; trials = [] }) ≡ record { answer = ran e s; held = h }
+  pub final_end : (h : Held P) (s : Rows) (e : End) → final m h s (record { cover = h.used; ending = e; trials = [] }) ≡ record { answer = ran e s; held = h }
   final_end h s e = ap (λ t. record { answer = ran e t; held = h }) (plus_blank s)

@@ -1,7 +1,6 @@
 -- The turns of a history, one request after the other.
-use Rattle.std.proofs.Common.{◌≡◌, ℕ, ◌+◌, ◌-◌, ◌<◌, ◌≤◌, min, ◌⊎◌, List, [], ◌∷◌, ◌++◌, map, length, get_or, take, drop, set, sym, refl, ap, ◌∙◌, subst, ap₂, inl, inr, ⊎_elim, arith, length-set, take-append-drop}
-use Rattle.std.proofs.lemmas.Bool.{cases_lt}
-use Rattle.std.proofs.lemmas.List.{length-drop, take_rest, drop_all, take_more, take_more_set, take_all, map_push, drop-set-lt}
+use Rattle.std.proofs.Common.{◌≡◌, ℕ, ◌+◌, ◌<◌, ◌≤◌, List, [], ◌∷◌, ◌++◌, map, length, get_or, take, drop, set, sym, refl, ap, ◌∙◌, subst, ap₂, arith, length-set, take-append-drop}
+use Rattle.std.proofs.lemmas.List.{take_more, take_more_set, take_all, map_push, drop-set-lt}
 use Rattle.std.specs.List.{between, AllByRecursion}
 use Rattle.esop.specs.Kind.{Meaning, Laws}
 use Rattle.esop.specs.Criterion.{Test, Strict}
@@ -20,34 +19,6 @@ use Rattle.cover.proofs.Attempting.{count_of}
 all_last : {X : Type 0} (Q : X → Type 0) (xs : List X) (x : X) → AllByRecursion Q (xs ++ x ∷ []) → AllByRecursion Q xs × Q x
 all_last Q [] x h = (tt, h.0)
 all_last Q (y ∷ xs) x h = let r = all_last Q xs x h.1 in ((h.0, r.0), r.1)
-
--- a part of a list, its ends brought within the list
-pub clipped : {X : Type 0} (xs : List X) (from to end start : ℕ) → end ≡ min to (length xs) → start ≡ min from end → take (end - start) (drop start xs) ≡ between from to xs
-clipped xs from to end start e s =
-    ⊎_elim
-    (λ (a : from ≤ end).
-    let f : start ≡ from = omega arith in
-    ⊎_elim
-    (λ (b : to ≤ length xs). let g : end ≡ to = omega arith in λ i. take (g i - f i) (drop (f i) xs))
-    (λ (b : length xs < to).
-    let g : end ≡ length xs = omega arith in
-    let l = length-drop from xs in
-    (λ i. take (g i - f i) (drop (f i) xs)) ∙ take_rest xs from ∙ sym (take_all (to - from) (drop from xs) (omega arith)))
-    (le_or_lt to (length xs)))
-    (λ (a : end < from).
-    let f : end - start ≡ 0 = omega arith in
-    (λ i. take (f i) (drop start xs))
-    ∙ ⊎_elim
-    (λ (b : to ≤ length xs). let g : to - from ≡ 0 = omega arith in sym (ap (λ n. take n (drop from xs)) g))
-    (λ (b : length xs < to). sym (ap (take (to - from)) (drop_all from xs (omega arith)) ∙ nothing (to - from)))
-    (le_or_lt to (length xs)))
-    (le_or_lt from end)
-  where
-    le_or_lt : (m n : ℕ) → (m ≤ n) ⊎ (n < m)
-    le_or_lt m n = ⊎_elim (λ (h : n < m). inr h) (λ (h : m ≤ n). inl h) (cases_lt n m)
-
-    nothing : {X : Type 0} (n : ℕ) → take {A = X} n [] ≡ []
-    nothing n = take_all n [] (omega arith)
 
 -- one more answer: no group was tried for those before it, nor for it
 pub untouched_more : (ys : List Answer) (i : ℕ) (a : Answer) → i < length ys → AllByRecursion Untouched (take (i + 1) (set ys i a)) → AllByRecursion Untouched (take i ys) × Untouched a

@@ -1,5 +1,5 @@
 -- What a cover holds.
-use Rattle.std.specs.Prelude.{ℕ, ◌-◌, min, List, length, take, drop}
+use Rattle.std.specs.Prelude.{◌≡◌, ℕ, ◌+◌, ◌-◌, ◌≤◌, min, List, length, take, drop}
 use Rattle.esop.specs.History.{Held}
 use Rattle.cover.specs.declared.memory.Cover.{Cover}
 
@@ -18,3 +18,12 @@ module _ {P : Type 0} {N : ℕ} where
   -- how many places can still be taken
   abbrev pub spare : Cover P N → ℕ
   spare c = min N (length c.places.now) - c.count
+
+  -- the two stand on the same places, lent once
+  pub record SameLoan (c d : Cover P N) : Type 0 where
+    pub size : length d.places.now ≡ length c.places.now
+    pub lender : d.places.ghost_name ≡ c.places.ghost_name
+
+  -- a work memory of so many places is enough to try a group: it has at least two places more than are in use
+  abbrev pub IsEnough : Cover P N → ℕ → Type 0
+  IsEnough c work = c.count + 2 ≤ work

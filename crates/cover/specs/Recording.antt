@@ -3,14 +3,13 @@ use Rattle.std.specs.Prelude.{◌≡◌, ℕ, ◌+◌, ◌<◌, ◌≤◌, Bool,
 use Rattle.esop.specs.Kind.{Meaning}
 use Rattle.esop.specs.Criterion.{Test}
 use Rattle.esop.specs.Entering.{bit}
-use Rattle.esop.specs.Running.{Row, Rows, Ending, spent, finished, all_tried, run}
+use Rattle.esop.specs.Running.{Row, Rows, all_tried, run}
+use Rattle.esop.specs.declared.ending.End.{End}
 use Rattle.esop.specs.History.{Answer, refused, refuse, ran, reported, ran_by}
-use Rattle.cover.specs.Holding.{used, held_of}
+use Rattle.cover.specs.Holding.{used, held_of, IsEnough}
 use Rattle.cover.specs.declared.memory.Cover.{Cover}
 use Rattle.cover.specs.declared.record.Row.{Row as Tally}
 use Rattle.cover.specs.declared.record.Record.{Record}
-use Rattle.cover.specs.declared.run.End.{End}
-use Rattle.cover.specs.declared.run.End.TheVariants.{Spent, Finished}
 use Rattle.cover.specs.declared.run.RunRefusal.{RunRefusal}
 use Rattle.cover.specs.declared.run.RunRefusal.TheVariants.{NoWork}
 
@@ -40,16 +39,12 @@ pub record Sensible (s : Rows) : Type 0 where
   pub three : s.three.kept ≤ s.three.tried
   pub four : s.four.kept ≤ s.four.tried
 
-abbrev pub ending_of : End → Ending
-ending_of Spent = spent
-ending_of Finished = finished
-
 -- the number of the question that was answered with no
 abbrev pub run_number : RunRefusal → ℕ
 run_number NoWork = 6
 
 abbrev pub run_answer : Result (End × Record) RunRefusal → Answer
-run_answer (Ok r) = ran (ending_of r.0) (rows_of r.1)
+run_answer (Ok r) = ran r.0 (rows_of r.1)
 run_answer (Err e) = refused (run_number e)
 
 -- no group was tried
@@ -59,5 +54,5 @@ idle (Err e) = Unit {0}
 
 -- Question 6 was answered, whatever the criterion and the budget are.
 abbrev pub Supplied : {P : Type 0} {N : ℕ} → Meaning P → Cover P N → ℕ → Bool → Type 0
-Supplied m c work true = (c.count + 2 ≤ work) × ((test : Test) (budget : ℕ) → ran_by m test (held_of c) budget work ≡ reported m (held_of c) (run m test budget (used c)))
+Supplied m c work true = IsEnough c work × ((test : Test) (budget : ℕ) → ran_by m test (held_of c) budget work ≡ reported m (held_of c) (run m test budget (used c)))
 Supplied m c work false = (work < c.count + 2) × ((test : Test) (budget : ℕ) → ran_by m test (held_of c) budget work ≡ refuse 6 (held_of c))

@@ -1,18 +1,15 @@
 -- A round of a run tries the groups of one cover, up to the first link that is kept.
-use Rattle.std.specs.Prelude.{◌≡◌, ℕ, ◌+◌, ◌-◌, ◌<◌, ◌≤◌, List, length}
+use Rattle.std.specs.Prelude.{◌≡◌, ℕ, ◌+◌, ◌-◌, ◌<◌, ◌≤◌, List, Some, None, Option}
 use Rattle.esop.specs.Kind.{Meaning}
 use Rattle.esop.specs.Criterion.{Test}
 use Rattle.esop.specs.Running.{Row, Rows, Outcome, run, trial_rows, all_tried}
+use Rattle.esop.specs.declared.ending.End.{End}
 use Rattle.esop.specs.History.{Held, Reply, ran, after_run}
-use Rattle.cover.specs.Holding.{used, held_of}
+use Rattle.cover.specs.Holding.{used, held_of, SameLoan}
 use Rattle.cover.specs.Calls.{Replied}
-use Rattle.cover.specs.Recording.{rows_of, ending_of, Sensible}
+use Rattle.cover.specs.Recording.{rows_of, Sensible}
 use Rattle.cover.specs.declared.memory.Cover.{Cover}
 use Rattle.cover.specs.declared.record.Record.{Record}
-use Rattle.cover.specs.declared.run.End.{End}
-use Rattle.cover.specs.declared.run.End.TheVariants as end
-use Rattle.cover.specs.declared.run.Stop.{Stop}
-use Rattle.cover.specs.declared.run.Stop.TheVariants.{Kept, Spent, Finished}
 
 abbrev pub plus_row : Row → Row → Row
 plus_row s t = record { tried = s.tried + t.tried; kept = s.kept + t.kept }
@@ -37,23 +34,19 @@ pub record Going {P : Type 0} {N : ℕ} (m : Meaning P) (test : Test) (budget : 
   pub fit : Fit budget tally
   pub few : c.count ≤ start.count
   pub unused : all_tried (rows_of tally) ≡ 0 → work ≡ before
-  pub size : length c.places.now ≡ length start.places.now
-  pub lender : c.places.ghost_name ≡ start.places.ghost_name
+  pub loan : SameLoan start c
 
 -- such a run has ended with the reply
 pub record Ended {P : Type 0} {N : ℕ} (reply : Reply P) (start : Cover P N) (before : List P) (c : Cover P N) (e : End) (tally : Record) (work : List P) : Type 0 where
-  pub replies : Replied reply (ran (ending_of e) (rows_of tally)) c
+  pub replies : Replied reply (ran e (rows_of tally)) c
   pub unused : all_tried (rows_of tally) ≡ 0 → work ≡ before
-  pub size : length c.places.now ≡ length start.places.now
-  pub lender : c.places.ghost_name ≡ start.places.ghost_name
+  pub loan : SameLoan start c
 
--- A round stopped at a kept link, from which the run goes on, or at the end of the run.
-abbrev pub Stopped : {P : Type 0} {N : ℕ} → Meaning P → Test → ℕ → Cover P N → Record → List P → Cover P N → Record → List P → Stop → Type 0
-Stopped {P} {N} m test budget c tally work d tally' work' Kept =
+-- A round kept a link, from which the run goes on, or it ended the run.
+abbrev pub Stopped : {P : Type 0} {N : ℕ} → Meaning P → Test → ℕ → Cover P N → Record → List P → Cover P N → Record → List P → Option End → Type 0
+Stopped {P} {N} m test budget c tally work d tally' work' None =
     ((reply : Reply P) (start : Cover P N) (before : List P) → Going m test budget reply start before c tally work → Going m test budget reply start before d tally' work')
     × (all_tried (rows_of tally) < all_tried (rows_of tally'))
     × (all_tried (rows_of tally') ≤ budget)
-Stopped {P} {N} m test budget c tally work d tally' work' Spent =
-    (reply : Reply P) (start : Cover P N) (before : List P) → Going m test budget reply start before c tally work → Ended reply start before d end.Spent tally' work'
-Stopped {P} {N} m test budget c tally work d tally' work' Finished =
-    (reply : Reply P) (start : Cover P N) (before : List P) → Going m test budget reply start before c tally work → Ended reply start before d end.Finished tally' work'
+Stopped {P} {N} m test budget c tally work d tally' work' (Some e) =
+    (reply : Reply P) (start : Cover P N) (before : List P) → Going m test budget reply start before c tally work → Ended reply start before d e tally' work'

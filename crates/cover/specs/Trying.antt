@@ -1,11 +1,11 @@
 -- What the calls owe that try one group.
-use Rattle.std.specs.Prelude.{◌≡◌, ℕ, ◌+◌, ◌≤◌, Bool, true, false, cond, List, Some, Ok, Err, Result}
+use Rattle.std.specs.Prelude.{◌≡◌, ℕ, Bool, true, false, cond, List, Some, Ok, Err, Result}
 use Rattle.std.specs.List.{slice_get}
 use Rattle.esop.specs.Kind.{Meaning}
 use Rattle.esop.specs.Criterion.{Test}
 use Rattle.esop.specs.Linking.{Group, IsGroup, result, says}
 use Rattle.esop.specs.History.{Answer, counted, refused, Held, Reply, accept, refuse, replaced, linked}
-use Rattle.cover.specs.Holding.{used, held_of}
+use Rattle.cover.specs.Holding.{used, held_of, IsEnough}
 use Rattle.cover.specs.declared.memory.Cover.{Cover}
 use Rattle.cover.specs.declared.trial.Group.{Group as Grouped}
 use Rattle.cover.specs.declared.link.LinkRefusal.{LinkRefusal}
@@ -52,5 +52,5 @@ decided m test h g = cond (says m test h.used g) (accept (replaced h (result m h
 -- Questions 2 to 6 were answered: by a refusal, or by the group, for which question 7 is left. Whatever the criterion is.
 abbrev pub Questioned : {P : Type 0} {N : ℕ} → Meaning P → Cover P N → ℕ → ℕ → ℕ → ℕ → Result (Grouped P) LinkRefusal → Type 0
 Questioned m c work p q o (Ok g) =
-    IsGroup m (used c) (group_of g) × (c.count + 2 ≤ work) × ((test : Test) → linked m test (held_of c) p q o work ≡ decided m test (held_of c) (group_of g))
+    IsGroup m (used c) (group_of g) × IsEnough c work × ((test : Test) → linked m test (held_of c) p q o work ≡ decided m test (held_of c) (group_of g))
 Questioned m c work p q o (Err e) = (untried (Err e) ≡ true) × ((test : Test) → linked m test (held_of c) p q o work ≡ refuse (link_number e) (held_of c))

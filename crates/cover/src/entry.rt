@@ -1,41 +1,30 @@
 // Entering products.
-ghost use Rattle.std.specs.Prelude.{◌≡◌, ◌+◌, ◌-◌, ◌<◌, ◌≤◌, true, false, [], ◌∷◌, length, drop, is_ok, nat_le, slice_index_or, slice_set};
+ghost use Rattle.std.specs.Prelude.{◌≡◌, ◌+◌, ◌-◌, ◌<◌, ◌≤◌, [], ◌∷◌, length, drop, is_ok, nat_le, slice_get, IfErr, OnOk};
 ghost use Rattle.std.specs.List.{remove};
 ghost use Rattle.esop.specs.Entering.{seek};
 ghost use Rattle.esop.specs.History.{admitted, room};
-ghost use Rattle.cover.specs.Holding.{used, free, spare, held_of};
-ghost use Rattle.cover.specs.Calls.{Entries, Replied, entry_number, entry_answer};
+ghost use Rattle.cover.specs.Holding.{used, free, spare, held_of, SameLoan};
+ghost use Rattle.cover.specs.Calls.{Entries, Called, entry_number, entry_answer};
 
 use crate::memory::{Cover, MOST};
 use esop::product::Product;
+use esop::refusal::Refusal;
 
 // Why products were not entered.
-#[derive(Clone, Copy)]
+#[derive(Clone, Copy, PartialEq, Eq, Debug)]
 pub enum EnterRefusal {
     NoPlace,
 }
 
-impl EnterRefusal {
-    // The number of the question that was answered with no.
-    pub fn number(self) -> u8
-        ensures { result ≡ entry_number self }
-    {
+// Each has the number of the question that was answered with no.
+impl Refusal for EnterRefusal {
+    ghost number = { entry_number };
+
+    fn number(self) -> u8 {
         match self {
             EnterRefusal::NoPlace => 1,
         }
     }
-}
-
-// The place of the first product at distance 0 or 1 from `p`.
-fn first_near<P: Product>(products: &[P], p: P) -> Option<usize>
-    ensures { result ≡ seek P.meaning p products.now }
-{
-    for (i, x) in products.iter().enumerate() {
-        if p.distance(*x) <= 1 {
-            return Some(i);
-        }
-    }
-    None
 }
 
 impl<'a, P: Product, const N: usize> Cover<'a, P, N> {
@@ -52,7 +41,7 @@ impl<'a, P: Product, const N: usize> Cover<'a, P, N> {
     pub fn products(&self) -> &[P]
         ensures { result.now ≡ used self.now }
     {
-        &self.places[0..self.count]
+        &self.places[..self.count]
     }
 
     // How many places can still be taken.
@@ -62,36 +51,27 @@ impl<'a, P: Product, const N: usize> Cover<'a, P, N> {
         self.places.len().min(N) - self.count
     }
 
+    // The place of the first product at distance 0 or 1 from `p`.
     fn seek(&self, p: P) -> Option<usize>
         ensures { result ≡ seek P.meaning p (used self.now) }
     {
-        first_near(self.products(), p)
-    }
-
-    // Copies the product after place `k` to it.
-    fn move_up(&mut self, k: usize)
-        requires { k + 1 < self.old.count }
-        ensures moved { (z : P) → self.new.places.now ≡ slice_set self.old.places.now k (slice_index_or self.old.places.now (k + 1) z) }
-        ensures count { self.new.count ≡ self.old.count }
-        ensures lender { self.new.places.ghost_name ≡ self.old.places.ghost_name }
-    {
-        self.places[k] = self.places[k + 1];
+        self.products().iter().position(|x| p.distance(*x) <= 1)
     }
 
     // Takes the product at place `i` out, and moves those after it up by one.
-    pub(crate) fn remove(&mut self, i: usize)
+    #[tactic(auto, using(crate::proofs::Shifting::shifted_used, crate::proofs::Shifting::shifted_free))]
+    pub(crate) fn remove(&mut self, i: usize) -> P
         requires { i < self.old.count }
+        ensures product { slice_get (used self.old) i ≡ Some result }
         ensures list { used self.new ≡ remove (used self.old) i }
         ensures rest { free self.new ≡ drop (self.old.count - 1) self.old.places.now }
         ensures one { self.new.count ≡ self.old.count - 1 }
-        ensures size { length self.new.places.now ≡ length self.old.places.now }
-        ensures lender { self.new.places.ghost_name ≡ self.old.places.ghost_name }
+        ensures loan { SameLoan self.old self.new }
     {
-        let last = self.count - 1;
-        for k in i..last {
-            self.move_up(k);
-        }
-        self.count = last;
+        let product = self.places[i];
+        self.places.copy_within(i + 1..self.count, i);
+        self.count -= 1;
+        product
     }
 
     // Enters `p`, for which there is a place. A product at distance 0 goes, and `p` with it; one at distance 1 gives
@@ -101,16 +81,14 @@ impl<'a, P: Product, const N: usize> Cover<'a, P, N> {
         ensures { Entries P.meaning (p ∷ []) self.old self.new }
     {
         while let Some(i) = self.seek(p) {
-            let q = self.places[i];
-            self.remove(i);
+            let q = self.remove(i);
             let Some(d) = p.difference(q, 0) else {
                 return;
             };
             p = p.join(q, d);
         }
-        let n = self.count;
-        self.places[n] = p;
-        self.count = n + 1;
+        self.places[self.count] = p;
+        self.count += 1;
     }
 
     // Enters the products in turn. There is a place for each.
@@ -126,37 +104,31 @@ impl<'a, P: Product, const N: usize> Cover<'a, P, N> {
 
 impl<'a, P: Product> Cover<'a, P, MOST> {
     // Question 1: is there a place for each of `more` products?
-    fn admits(&self, more: usize) -> bool
-        ensures question { result ≡ nat_le (length (used self.now) + more) (room (held_of self.now)) }
-        ensures places { result ≡ true → more ≤ spare self.now }
+    fn admit(&self, more: usize) -> Result<(), EnterRefusal>
+        ensures question { is_ok result ≡ nat_le (length (used self.now) + more) (room (held_of self.now)) }
+        ensures places { OnOk result (more ≤ spare self.now) }
+        ensures number { IfErr result (λ e. entry_number e ≡ 1) }
     {
-        more <= self.room()
-    }
-
-    // Enters `p`, and answers the new count.
-    pub fn enter(&mut self, p: P) -> Result<usize, EnterRefusal>
-        ensures reply { Replied (admitted P.meaning (held_of self.old) (p ∷ [])) (entry_answer result) self.new }
-        ensures same { is_ok result ≡ false → self.new ≡ self.old }
-        ensures size { length self.new.places.now ≡ length self.old.places.now }
-        ensures lender { self.new.places.ghost_name ≡ self.old.places.ghost_name }
-    {
-        if !self.admits(1) {
+        if self.room() < more {
             return Err(EnterRefusal::NoPlace);
         }
+        Ok(())
+    }
+
+    // Enters `p`, and answers the new count. Not by the call below: a slice of one owes that a product of the kind fits in memory.
+    pub fn enter(&mut self, p: P) -> Result<usize, EnterRefusal>
+        ensures { Called (admitted P.meaning (held_of self.old) (p ∷ [])) (entry_answer result) result self.old self.new }
+    {
+        self.admit(1)?;
         self.settle(p);
         Ok(self.count)
     }
 
     // Enters the products in turn, and answers the new count; or enters none, where there is no place for each.
     pub fn enter_all(&mut self, ps: &[P]) -> Result<usize, EnterRefusal>
-        ensures reply { Replied (admitted P.meaning (held_of self.old) ps.now) (entry_answer result) self.new }
-        ensures same { is_ok result ≡ false → self.new ≡ self.old }
-        ensures size { length self.new.places.now ≡ length self.old.places.now }
-        ensures lender { self.new.places.ghost_name ≡ self.old.places.ghost_name }
+        ensures { Called (admitted P.meaning (held_of self.old) ps.now) (entry_answer result) result self.old self.new }
     {
-        if !self.admits(ps.len()) {
-            return Err(EnterRefusal::NoPlace);
-        }
+        self.admit(ps.len())?;
         self.settle_all(ps);
         Ok(self.count)
     }

@@ -5,7 +5,7 @@ ghost use Rattle.std.specs.Prelude.{◌≤◌, length};
 pub const MOST: usize = 960;
 
 // A group is tried in a list of its own, which holds up to two products more than the cover.
-pub const WORK: usize = 962;
+pub const WORK: usize = MOST + 2;
 
 // The first `count` of the places lent hold the products, at most `N`; the others are free.
 #[derive(Drop)]

@@ -2,7 +2,7 @@
 ghost use Rattle.std.specs.Prelude.{◌≡◌, ◌<◌, ◌≤◌, true, length, take, is_ok, Ok, Err};
 ghost use Rattle.std.specs.List.{between, AllByRecursion};
 ghost use Rattle.esop.specs.History.{served};
-ghost use Rattle.cover.specs.Holding.{held_of};
+ghost use Rattle.cover.specs.Holding.{held_of, SameLoan};
 ghost use Rattle.cover.specs.Calls.{Replied};
 ghost use Rattle.cover.specs.Serving.{asked, said, call_asked, call_said, Serves, Untouched};
 
@@ -16,7 +16,7 @@ use esop::product::Product;
 
 // What is asked of a cover. The products of a list entry are those of a lent list from place `from` up to, and not
 // including, `to`, as far as the list goes. Each link and each run brings its own criterion.
-#[derive(Clone, Copy)]
+#[derive(Clone, Copy, PartialEq, Eq, Debug)]
 pub enum Request<P, C> {
     Enter(P),
     EnterAll {
@@ -36,7 +36,7 @@ pub enum Request<P, C> {
 }
 
 // What the call that a request asks for answered.
-#[derive(Clone, Copy)]
+#[derive(Clone, Copy, PartialEq, Eq, Debug)]
 pub enum Answer {
     Entered(Result<usize, EnterRefusal>),
     Linked(Result<usize, LinkRefusal>),
@@ -44,7 +44,7 @@ pub enum Answer {
 }
 
 // Why no request was served.
-#[derive(Clone, Copy)]
+#[derive(Clone, Copy, PartialEq, Eq, Debug)]
 pub enum ServeRefusal {
     FewAnswers,
 }
@@ -64,8 +64,7 @@ impl<'a, P: Product> Cover<'a, P, MOST> {
         ensures reply { Replied (served P.meaning C.keeps (held_of self.old) (asked list.now (length work.old) request.now)) (said result) self.new }
         ensures call { call_said result ≡ call_asked request.now }
         ensures work { Untouched result → work.new ≡ work.old }
-        ensures size { length self.new.places.now ≡ length self.old.places.now }
-        ensures lender { self.new.places.ghost_name ≡ self.old.places.ghost_name }
+        ensures loan { SameLoan self.old self.new }
     {
         match request {
             Request::Enter(p) => Answer::Entered(self.enter(*p)),
@@ -97,8 +96,9 @@ fn serve_all<P: Product, C: Criterion>(
     ensures work { AllByRecursion Untouched (take (length requests.now) answers.new) → work.new ≡ work.old }
 {
     let mut cover = Cover::<P, MOST>::open(places);
-    for i in 0..requests.len() {
-        answers[i] = cover.obey(list, &requests[i], work);
+    // By index: what a loop over `answers.iter_mut()`, zipped with the requests, writes is not known after it.
+    for (i, request) in requests.iter().enumerate() {
+        answers[i] = cover.obey(list, request, work);
     }
     cover.count
 }

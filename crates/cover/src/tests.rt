@@ -1,4 +1,5 @@
-// The least kind and the least criterion, on a cover and by requests.
+// The least kind and the least criterion, on a cover and by requests. They stand in the tests of `esop` too: no crate can use another's tests, and as
+// public types of `esop` they would be a kind and a criterion that no caller wants.
 ghost use Rattle.std.specs.Prelude.{false};
 ghost use Rattle.std.proofs.Common.{rules};
 
@@ -7,6 +8,7 @@ use crate::memory::{Cover, MOST};
 use crate::serve::{Answer, Request, serve};
 use esop::criterion::{Criterion, Size};
 use esop::product::Product;
+use esop::refusal::Refusal;
 
 // The kind with one product, which covers nothing.
 #[derive(Clone, Copy)]
@@ -64,9 +66,9 @@ impl Criterion for Never {
 fn two_cancel(rt: HostRuntime) {
     let mut places = [Single; 2];
     let mut cover = Cover::<Single, MOST>::open(&mut places);
-    assert!(rt; cover.enter(Single).is_ok());
+    assert_eq!(rt; cover.enter(Single), Ok(1));
     assert_eq!(rt; cover.products().len(), 1);
-    assert!(rt; cover.enter(Single).is_ok());
+    assert_eq!(rt; cover.enter(Single), Ok(0));
     assert_eq!(rt; cover.products().len(), 0);
     assert_eq!(rt; cover.room(), 2);
 }
@@ -76,7 +78,7 @@ fn no_place(rt: HostRuntime) {
     let mut places = [Single; 1];
     let mut cover = Cover::<Single, MOST>::open(&mut places);
     let refused = cover.enter_all(&[Single; 2]);
-    assert!(rt; refused.is_err());
+    assert_eq!(rt; refused, Err(EnterRefusal::NoPlace));
     assert_eq!(rt; EnterRefusal::NoPlace.number(), 1);
     assert_eq!(rt; cover.products().len(), 0);
 }
@@ -101,5 +103,5 @@ fn requests(rt: HostRuntime) {
         },
     ];
     let served = serve(&mut places, &three, &asked, &mut work, &mut answers);
-    assert_eq!(rt; served.ok(), Some(1));
+    assert_eq!(rt; served, Ok(1));
 }

@@ -1,11 +1,10 @@
 // The trial of one group: its link is made in the work memory, and adopted where a criterion says yes.
 ghost use Rattle.std.specs.Prelude.{◌≡◌, ◌+◌, ◌<◌, ◌≤◌, true, false, length, if◌then◌else◌, nat_lt};
-ghost use Rattle.esop.specs.Kind.{distance};
 ghost use Rattle.esop.specs.Entering.{total_weight};
 ghost use Rattle.esop.specs.Linking.{factorial as orders_of, link, span as span_of, without, IsGroup, result as made, says};
 ghost use Rattle.esop.specs.Running.{spans};
 ghost use Rattle.esop.specs.History.{replaced};
-ghost use Rattle.cover.specs.Holding.{used, spare, held_of};
+ghost use Rattle.cover.specs.Holding.{used, spare, held_of, SameLoan, IsEnough};
 ghost use Rattle.cover.specs.Calls.{Entries};
 ghost use Rattle.cover.specs.Trying.{group_of, Reads};
 
@@ -23,24 +22,27 @@ pub(crate) struct Group<P> {
     pub(crate) number: usize,
 }
 
+// In how many orders `n` positions can stand. Spelt out: of five values a product over a range says no more.
 fn factorial(n: usize) -> usize
     requires { n ≤ 4 }
     ensures { result ≡ orders_of n }
 {
     match n {
-        0 => 1,
-        1 => 1,
+        0 | 1 => 1,
         2 => 2,
         3 => 6,
         _ => 24,
     }
 }
 
-// How many groups a pair at distance `k` makes: one for each order of its positions, at distance 2 to 4.
-pub(crate) fn orders(k: usize) -> usize
-    ensures { result ≡ (if spans k then orders_of k else 0) }
+// How many groups a pair at a distance makes: one for each order of its positions, at distance 2 to 4.
+pub(crate) fn orders(distance: usize) -> usize
+    ensures { result ≡ (if spans distance then orders_of distance else 0) }
 {
-    if 2 <= k && k <= 4 { factorial(k) } else { 0 }
+    match distance {
+        2..=4 => factorial(distance),
+        _ => 0,
+    }
 }
 
 // What the products weigh together.
@@ -48,35 +50,17 @@ fn weigh<P: Product>(products: &[P]) -> u64
     requires { length products.now ≤ 962 }
     ensures { result ≡ total_weight P.meaning products.now }
 {
-    let mut sum: u64 = 0;
-    for x in products {
-        sum += x.weight() as u64;
-    }
-    sum
+    products
+        .iter()
+        .map(|product| u64::from(product.weight()))
+        .sum()
 }
 
-// A cover of the products, in the first places of the memory lent.
-fn copied<'w, P: Product, const N: usize>(work: &'w mut [P], products: &[P]) -> Cover<'w, P, N>
-    requires { (length products.now ≤ length work.old) × (length products.now ≤ N) }
-    ensures list { used result ≡ products.now }
-    ensures size { length result.places.now ≡ length work.old }
-    ensures lender { result.places.ghost_name ≡ work.entry.ghost_name }
+// Whether a number is the order number of a group of a pair at a distance.
+pub(crate) fn is_order(number: usize, distance: usize) -> bool
+    ensures { result ≡ nat_lt number (if spans distance then orders_of distance else 0) }
 {
-    let n = products.len();
-    for i in 0..n {
-        work[i] = products[i];
-    }
-    Cover {
-        places: work,
-        count: n,
-    }
-}
-
-// Whether `o` is the order number of a group of a pair at distance `k`.
-pub(crate) fn is_order(o: usize, k: usize) -> bool
-    ensures { result ≡ nat_lt o (if spans k then orders_of k else 0) }
-{
-    o < orders(k)
+    number < orders(distance)
 }
 
 impl<P: Product> Group<P> {
@@ -109,47 +93,52 @@ impl<'a, P: Product, const N: usize> Cover<'a, P, N> {
         requires { (group.first < group.second) × (group.second < self.old.count) }
         ensures list { used self.new ≡ without (used self.old) (group_of group) }
         ensures two { self.new.count + 2 ≡ self.old.count }
-        ensures size { length self.new.places.now ≡ length self.old.places.now }
-        ensures lender { self.new.places.ghost_name ≡ self.old.places.ghost_name }
+        ensures loan { SameLoan self.old self.new }
     {
         self.remove(group.second);
         self.remove(group.first);
     }
 
-    // Makes `products` those of the cover, in the same memory.
+    // Makes `products`, for each of which there is a place, those of the cover, in the same memory.
     fn adopt(&mut self, products: &[P])
-        requires { length products.now ≤ self.old.count }
+        requires { (length products.now ≤ length self.old.places.now) × (length products.now ≤ N) }
         ensures held { held_of self.new ≡ replaced (held_of self.old) products.now }
-        ensures size { length self.new.places.now ≡ length self.old.places.now }
-        ensures lender { self.new.places.ghost_name ≡ self.old.places.ghost_name }
+        ensures loan { SameLoan self.old self.new }
     {
-        let n = products.len();
-        for i in 0..n {
-            self.places[i] = products[i];
-        }
-        self.count = n;
+        self.places[..products.len()].copy_from_slice(products);
+        self.count = products.len();
     }
 
-    // Enters the products of the link of `a` and `b` with the order number `o`. On the way from `a` to `b` the
-    // positions that are still to be taken are those at which the two still differ, so none of them has to be kept in
-    // mind.
-    fn enter_link(&mut self, a: P, b: P, o: usize)
-        requires few { distance P.meaning a b ≤ 4 }
-        requires order { o < orders_of (distance P.meaning a b) }
-        requires places { distance P.meaning a b ≤ spare self.old }
-        ensures { Entries P.meaning (link P.meaning a b o) self.old self.new }
+    // How many products there are, and what they weigh together.
+    fn size(&self) -> Size
+        requires { N ≤ 962 }
+        ensures count { result.count ≡ length (used self.now) }
+        ensures weight { result.weight ≡ total_weight P.meaning (used self.now) }
     {
-        let mut t = a;
-        let mut rest = o;
-        let mut k = a.distance(b);
-        while k > 0 {
-            k -= 1;
-            let f = factorial(k);
-            let d = t.difference(b, rest / f).unwrap();
-            let next = t.take(b, d);
-            self.settle(t.join(next, d));
-            rest %= f;
-            t = next;
+        let products = self.products();
+        Size {
+            count: products.len(),
+            weight: weigh(products),
+        }
+    }
+
+    // Enters the products of the link of a group. On the way from the one product to the other the positions that are
+    // still to be taken are those at which the two still differ, so none of them has to be kept in mind.
+    fn enter_link(&mut self, group: Group<P>)
+        requires few { span_of P.meaning (group_of group) ≤ 4 }
+        requires order { group.number < orders_of (span_of P.meaning (group_of group)) }
+        requires places { span_of P.meaning (group_of group) ≤ spare self.old }
+        ensures { Entries P.meaning (link P.meaning group.a group.b group.number) self.old self.new }
+    {
+        let mut from = group.a;
+        let mut rest = group.number;
+        for left in (0..group.span()).rev() {
+            let orders = factorial(left);
+            let position = from.difference(group.b, rest / orders).unwrap();
+            let next = from.take(group.b, position);
+            self.settle(from.join(next, position));
+            rest %= orders;
+            from = next;
         }
     }
 }
@@ -158,13 +147,14 @@ impl<'a, P: Product> Cover<'a, P, MOST> {
     // The cover that the link of a group makes, in the work memory.
     fn tried<'w>(&self, work: &'w mut [P], group: Group<P>) -> Cover<'w, P, WORK>
         requires group { IsGroup P.meaning (used self.now) (group_of group) }
-        requires work { self.now.count + 2 ≤ length work.old }
+        requires work { IsEnough self.now (length work.old) }
         ensures list { used result ≡ made P.meaning (used self.now) (group_of group) }
         ensures lender { result.places.ghost_name ≡ work.entry.ghost_name }
     {
-        let mut list = copied::<P, WORK>(work, self.products());
+        let mut list = Cover::<P, WORK>::open(work);
+        list.adopt(self.products());
         list.take_out(group);
-        list.enter_link(group.a, group.b, group.number);
+        list.enter_link(group);
         list
     }
 
@@ -179,15 +169,7 @@ impl<'a, P: Product> Cover<'a, P, MOST> {
         ensures verdict { result ≡ says P.meaning (C.keeps criterion.now) (used self.now) (group_of group) }
         ensures fewer { result ≡ true → length (used list.now) ≤ self.now.count }
     {
-        let before = Size {
-            count: self.count,
-            weight: weigh(self.products()),
-        };
-        let after = Size {
-            count: list.count,
-            weight: weigh(list.products()),
-        };
-        criterion.keeps(group.span(), before, after)
+        criterion.keeps(group.span(), self.size(), list.size())
     }
 
     // Tries a group: where the criterion says yes to its link, the cover is the one that it makes, else as it was.
@@ -198,12 +180,11 @@ impl<'a, P: Product> Cover<'a, P, MOST> {
         group: Group<P>,
     ) -> bool
         requires group { IsGroup P.meaning (used self.old) (group_of group) }
-        requires work { self.old.count + 2 ≤ length work.old }
+        requires work { IsEnough self.old (length work.old) }
         ensures verdict { result ≡ says P.meaning (C.keeps criterion.now) (used self.old) (group_of group) }
         ensures kept { result ≡ true → held_of self.new ≡ replaced (held_of self.old) (made P.meaning (used self.old) (group_of group)) }
         ensures same { result ≡ false → self.new ≡ self.old }
-        ensures size { length self.new.places.now ≡ length self.old.places.now }
-        ensures lender { self.new.places.ghost_name ≡ self.old.places.ghost_name }
+        ensures loan { SameLoan self.old self.new }
     {
         let list = self.tried(work, group);
         if !self.approves(criterion, &list, group) {

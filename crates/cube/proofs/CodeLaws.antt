@@ -1,9 +1,9 @@
 -- What the words that the code computes say of the positions.
 -- Assumes nothing.
-use Rattle.std.proofs.Common.{◌≡◌, ℕ, ◌+◌, ◌-◌, ◌*◌, ◌/◌, ◌^◌, ◌<◌, Bool, true, false, cond, not, ◌&&◌, eqb, sym, refl, ap, ◌∙◌, ap₂, arith, pow_pos}
+use Rattle.std.proofs.Common.{◌≡◌, ◌≢◌, ℕ, ◌+◌, ◌-◌, ◌*◌, ◌/◌, ◌^◌, ◌<◌, Bool, true, false, cond, not, ◌&&◌, eqb, sym, refl, ap, ◌∙◌, ap₂, arith, pow_pos}
 use lib.Bits.{bit_and, bit_or, bit_xor, or_lt, xor_lt}
 use lib.Count.{ones}
-use Rattle.std.proofs.lemmas.Bool.{cond-true, lt-ltb, eq-eqb, eqb-true}
+use Rattle.std.proofs.lemmas.Bool.{cond-true, lt-ltb, eq-eqb, ne_eqb, eqb-true, and_left}
 use Rattle.esop.specs.Kind.{distance}
 use Rattle.esop.specs.Positionwise.{everywhere}
 use Rattle.esop.proofs.Everywhere.{everywhere_same, everywhere_suc, everywhere_all, everywhere_at}
@@ -69,7 +69,7 @@ present_is c =
     ∙ present_bits _ _ (bit_below c.zeros i) (bit_below c.ones i) (full_bit c.zeros c.ones i c.full l)
     ∙ ap (λ n. not (eqb n 3)) (sym (value_in c i l)))
 
-same_tests : (s t : Bool) → (s ≡ true → t ≡ true) → (t ≡ true → s ≡ true) → s ≡ t
+pub same_tests : (s t : Bool) → (s ≡ true → t ≡ true) → (t ≡ true → s ≡ true) → s ≡ t
 same_tests true true p q = refl
 same_tests true false p q = sym (p refl)
 same_tests false true p q = q refl
@@ -113,3 +113,14 @@ covers_is c x =
     (all_set 32 (agreeing_word c x) (chosen_lt 32 c.zeros c.ones (bit_and x 4294967295) (inputs_lt c).0 (inputs_lt c).1)
     ∙ everywhere_same (λ i. eqb (bit (agreeing_word c x) i) 1) (λ i. meets i (value c i) x) 32 (agreeing_bit c x))
     ∙ sym (everywhere_suc (λ i. meets i (value c i) x) 32)
+
+-- where every input agrees, the output decides; and where one does not, nothing is covered
+pub covers_agreeing : (c : Cube) (x : ℕ) → agreeing_word c x ≡ 4294967295 → driven c (x / 2 ^ 32) ≡ covers c x
+covers_agreeing c x e = ap (λ t. t && driven c (x / 2 ^ 32)) (sym (eq-eqb (agreeing_word c x) 4294967295 e)) ∙ covers_is c x
+
+pub covers_not : (c : Cube) (x w : ℕ) → w ≡ agreeing_word c x → (w ≢ 4294967295) → eqb w 4294967295 ≡ covers c x
+covers_not c x w e ne =
+    ap (λ n. eqb n 4294967295) e ∙ no ∙ sym (and_left _ (driven c (x / 2 ^ 32)) no) ∙ covers_is c x
+  where
+    no : eqb (agreeing_word c x) 4294967295 ≡ false
+    no = ne_eqb (agreeing_word c x) 4294967295 (λ f. ne (e ∙ f))

@@ -1,16 +1,16 @@
 -- Laws of the bits of a number, for every width.
 -- Assumes nothing.
 use Rattle.std.specs.Prelude.{◌≡◌, ℕ, zero, suc, ◌+◌, ◌-◌, ◌*◌, ◌/◌, ◌%◌, ◌^◌, ◌<◌, ◌≤◌, cond, ◌==◌, ◌≢◌, refl}
-use Rattle.std.proofs.Common.{sym, ap, ap₂, ◌∙◌, ⊎_elim, mod-lt, pow-suc, zero-lt-suc, mul_comm, lt_of_le_of_lt, arith, pow_pos, pow-add}
-use Rattle.std.proofs.Math.Nat.{div-eq_of_lt, div_self, mul-mod_left, div-div-eq-div-mul}
-use Rattle.std.specs.Int.Bits.{bit_and, bit_or, bit_xor, or_add_and, and_zero_r, xor_zero_r, xor_self, xor_assoc}
-use Rattle.std.proofs.lemmas.Nat.{and_shr, or_shr, xor_shr, and_mod, or_mod, xor_mod, and_le_l, and_le_r, or_lt, xor_lt, xor_block, shl-shr}
+use Rattle.std.proofs.Common.{sym, ap, ap₂, ◌∙◌, ⊎_elim, lt_of_le_of_lt, arith}
+use Rattle.std.specs.Int.Bits.{bit_and, bit_or, bit_xor, and_zero_r, xor_zero_r, xor_self, xor_assoc}
+use Rattle.std.proofs.lemmas.Nat.{and_shr, or_shr, xor_shr, and_mod, or_mod, xor_mod, and_le_l, or_lt, xor_lt, xor_block}
+use Rattle.std.proofs.lemmas.Nat.Bits.{bit_at-lt, bit_at_lowest, bit_at-suc, bit_at-pow_same, bit_at-pow_other, bit_at_ones, same_from_bits_below}
 use Rattle.std.proofs.Math.Pow.{pow-lt}
-use Rattle.std.proofs.lemmas.Bool.{cases_order, cases_eq, cases_lt, cond-true, cond-false, eq-eqb, ne_eqb}
+use Rattle.std.proofs.lemmas.Bool.{cases_eq, cases_lt, cond-true, cond-false, eq-eqb, ne_eqb}
 use Rattle.cube.specs.Bit.{bit, with_bit, without_bit, chosen}
 
 pub bit_below : (n i : ℕ) → bit n i < 2
-bit_below n i = mod-lt (n / 2 ^ i) (zero-lt-suc 1)
+bit_below = bit_at-lt
 
 pub bit_of_and : (a b i : ℕ) → bit (bit_and a b) i ≡ bit_and (bit a i) (bit b i)
 bit_of_and a b i = ap (λ (n : ℕ). n % 2) (and_shr a b i) ∙ and_mod (a / 2 ^ i) (b / 2 ^ i) 1
@@ -21,47 +21,19 @@ bit_of_or a b i = ap (λ (n : ℕ). n % 2) (or_shr a b i) ∙ or_mod (a / 2 ^ i)
 pub bit_of_xor : (a b i : ℕ) → bit (bit_xor a b) i ≡ bit_xor (bit a i) (bit b i)
 bit_of_xor a b i = ap (λ (n : ℕ). n % 2) (xor_shr a b i) ∙ xor_mod (a / 2 ^ i) (b / 2 ^ i) 1
 
-pub bit_pow_same : (i : ℕ) → bit (2 ^ i) i ≡ 1
-bit_pow_same i = ap (λ (n : ℕ). n % 2) (div_self (pow_pos i))
-
-bit_pow_above : (i d : ℕ) → bit (2 ^ (suc d + i)) i ≡ 0
-bit_pow_above i d =
-    ap (λ (n : ℕ). n / 2 ^ i % 2) (pow-add 2 (suc d) i) ∙ ap (λ (n : ℕ). n % 2) (shl-shr (2 ^ suc d) i)
-    ∙ ap (λ (n : ℕ). n % 2) (pow-suc 2 d) ∙ mul-mod_left (2 ^ d) 2
-
-pub bit_pow_other : (i j : ℕ) → (j ≢ i) → bit (2 ^ i) j ≡ 0
-bit_pow_other i j ne =
-    ⊎_elim (λ e. absurd (ne e))
-    (λ s. ⊎_elim
-    (λ (lt : j < i). let e : i ≡ suc (i - j - 1) + j = omega arith in ap (λ (n : ℕ). bit (2 ^ n) j) e ∙ bit_pow_above j (i - j - 1))
-    (λ (gt : i < j). ap (λ (n : ℕ). n % 2) (div-eq_of_lt (pow-lt gt))) s)
-    (cases_order j i)
-
 pub bit_suc : (n i : ℕ) → bit n (suc i) ≡ bit (n / 2) i
-bit_suc n i =
-    ap (λ (m : ℕ). n / m % 2) (pow-suc 2 i ∙ mul_comm (2 ^ i) 2) ∙ sym (ap (λ (m : ℕ). m % 2) (div-div-eq-div-mul n 2 (2 ^ i)))
+bit_suc = bit_at-suc
 
 pub bit_zero : (n : ℕ) → bit n 0 ≡ n % 2
-bit_zero n = let e : n / 1 ≡ n = omega arith in ap (λ (m : ℕ). m % 2) e
+bit_zero = bit_at_lowest
 
 -- numbers of k bits with the same bits are equal
 pub bits_same : (k a b : ℕ) → a < 2 ^ k → b < 2 ^ k → ((i : ℕ) → i < k → bit a i ≡ bit b i) → a ≡ b
-bits_same zero a b ha hb h = omega arith
-bits_same (suc k) a b ha hb h =
-    let low : a % 2 ≡ b % 2 = sym (bit_zero a) ∙ h 0 (omega arith) ∙ bit_zero b in
-    let p = pow-suc 2 k in
-    let high : a / 2 ≡ b / 2 = bits_same k (a / 2) (b / 2) (omega arith) (omega arith) (λ i l. sym (bit_suc a i) ∙ h (suc i) (omega arith) ∙ bit_suc b i) in
-    omega arith
+bits_same = same_from_bits_below
 
 -- the k low bits set
 pub bit_mask : (k i : ℕ) → i < k → bit (2 ^ k - 1) i ≡ 1
-bit_mask zero i h = absurd (omega arith)
-bit_mask (suc k) zero h = let p = pow-suc 2 k in let q = pow_pos k in bit_zero (2 ^ suc k - 1) ∙ omega arith
-bit_mask (suc k) (suc i) h =
-    let p = pow-suc 2 k in
-    let q = pow_pos k in
-    let e : (2 ^ suc k - 1) / 2 ≡ 2 ^ k - 1 = omega arith in
-    bit_suc (2 ^ suc k - 1) i ∙ ap (λ (n : ℕ). bit n i) e ∙ bit_mask k i (omega arith)
+bit_mask = bit_at_ones
 
 pub by_bit : (P : ℕ → Type 0) → P 0 → P 1 → (n : ℕ) → n < 2 → P n
 by_bit P p q zero h = p
@@ -76,10 +48,10 @@ with_bit_at n i j =
     bit_of_or n (2 ^ i) j
     ∙ ⊎_elim
     (λ (e : j ≡ i).
-    ap (bit_or (bit n j)) (ap (λ m. bit (2 ^ m) j) (sym e) ∙ bit_pow_same j)
+    ap (bit_or (bit n j)) (ap (λ m. bit (2 ^ m) j) (sym e) ∙ bit_at-pow_same j)
     ∙ by_bit (λ x. bit_or x 1 ≡ 1) refl refl (bit n j) (bit_below n j) ∙ sym (cond-true _ _ _ (eq-eqb j i e)))
     (λ ne.
-    ap (bit_or (bit n j)) (bit_pow_other i j ne)
+    ap (bit_or (bit n j)) (bit_at-pow_other i j ne)
     ∙ by_bit (λ x. bit_or x 0 ≡ x) refl refl (bit n j) (bit_below n j) ∙ sym (cond-false _ _ _ (ne_eqb j i ne)))
     (cases_eq j i)
 
@@ -88,15 +60,12 @@ without_bit_at n i j =
     bit_of_xor (with_bit n i) (2 ^ i) j ∙ ap (λ m. bit_xor m (bit (2 ^ i) j)) (with_bit_at n i j)
     ∙ ⊎_elim
     (λ (e : j ≡ i).
-    ap₂ bit_xor (cond-true _ _ _ (eq-eqb j i e)) (ap (λ m. bit (2 ^ m) j) (sym e) ∙ bit_pow_same j)
+    ap₂ bit_xor (cond-true _ _ _ (eq-eqb j i e)) (ap (λ m. bit (2 ^ m) j) (sym e) ∙ bit_at-pow_same j)
     ∙ sym (cond-true _ _ _ (eq-eqb j i e)))
     (λ ne.
-    ap₂ bit_xor (cond-false _ _ _ (ne_eqb j i ne)) (bit_pow_other i j ne)
+    ap₂ bit_xor (cond-false _ _ _ (ne_eqb j i ne)) (bit_at-pow_other i j ne)
     ∙ by_bit (λ x. bit_xor x 0 ≡ x) refl refl (bit n j) (bit_below n j) ∙ sym (cond-false _ _ _ (ne_eqb j i ne)))
     (cases_eq j i)
-
-pub le_or : (a b : ℕ) → a ≤ bit_or a b
-le_or a b = let s = or_add_and a b in let l = and_le_r a b in omega arith
 
 pub with_bit_lt : (k n i : ℕ) → n < 2 ^ k → i < k → with_bit n i < 2 ^ k
 with_bit_lt k n i h l = or_lt k n (2 ^ i) h (pow-lt l)
@@ -114,11 +83,11 @@ chosen_at a b i j =
     chosen_bit a b (2 ^ i) j
     ∙ ⊎_elim
     (λ (e : i ≡ j).
-    ap (chosen (bit a j) (bit b j)) (ap (λ m. bit (2 ^ m) j) e ∙ bit_pow_same j)
+    ap (chosen (bit a j) (bit b j)) (ap (λ m. bit (2 ^ m) j) e ∙ bit_at-pow_same j)
     ∙ by_bits (λ x y. chosen x y 1 ≡ y) refl refl refl refl (bit a j) (bit b j) (bit_below a j) (bit_below b j)
     ∙ sym (cond-true _ _ _ (eq-eqb i j e)))
     (λ ne.
-    ap (chosen (bit a j) (bit b j)) (bit_pow_other i j (λ e. ne (sym e)))
+    ap (chosen (bit a j) (bit b j)) (bit_at-pow_other i j (λ e. ne (sym e)))
     ∙ ap (bit_xor (bit a j)) (and_zero_r _) ∙ xor_zero_r _ ∙ sym (cond-false _ _ _ (ne_eqb i j ne)))
     (cases_eq i j)
 

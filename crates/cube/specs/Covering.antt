@@ -2,8 +2,9 @@
 use Rattle.std.specs.Prelude.{ℕ, ◌+◌, ◌*◌, ◌/◌, ◌^◌, Bool, cond, ◌&&◌, List, [], ◌∷◌, ◌==◌, nat_lt}
 use Rattle.esop.specs.Positionwise.{everywhere}
 use Rattle.cube.specs.Bit.{bit}
-use Rattle.cube.specs.Cubes.{Words, words}
+use Rattle.cube.specs.Cubes.{words}
 use Rattle.cube.specs.declared.cube.Cube.{Cube}
+use Rattle.cube.specs.declared.words.Words.{Words}
 
 -- the value of words at a position: at an input 1 negative, 2 positive, 3 absent; at position 32 the word of driven outputs
 abbrev pub value_of : Words → ℕ → ℕ

@@ -8,13 +8,9 @@ use Rattle.cube.specs.declared.cube.Form.{Form}
 use Rattle.cube.specs.declared.cube.Form.TheVariants.{Negative, Positive, Absent}
 use Rattle.cube.specs.declared.cube.CubeRefusal.{CubeRefusal}
 use Rattle.cube.specs.declared.cube.CubeRefusal.TheVariants.{NoForm, NoOutput}
+use Rattle.cube.specs.declared.words.Words.{Words}
 
 -- the inputs that may be 0, the inputs that may be 1, and the driven outputs, each as a word of bits
-pub record Words : Type 0 where
-  pub zeros : ℕ
-  pub ones : ℕ
-  pub outputs : ℕ
-
 abbrev pub words_of : ℕ → ℕ → ℕ → Words
 words_of z o u = record { zeros = z; ones = o; outputs = u }
 

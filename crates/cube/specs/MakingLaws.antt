@@ -6,14 +6,15 @@ use mathlib.Core.HLevel.{is_prop→PathP}
 use Rattle.std.proofs.Math.Nat.{ℕ_set}
 use Rattle.std.proofs.Math.Bridge.{le_prop}
 use Rattle.std.specs.Int.Bits.{bit_or}
-use Rattle.std.proofs.lemmas.Nat.{or_comm, or_lt}
+use Rattle.std.proofs.lemmas.Nat.{or_comm, or_lt, le_or_l}
 use Rattle.std.proofs.lemmas.Bool.{eq-eqb, lt-ltb, cond-true, false≢true}
 use Rattle.cube.specs.Bit.{bit}
-use Rattle.cube.specs.Cubes.{Words, words, words_of, has_forms, has_output, made, made_by, formed, with_form}
+use Rattle.cube.specs.Cubes.{words, words_of, has_forms, has_output, made, made_by, formed, with_form}
 use Rattle.cube.specs.declared.cube.Cube.{Cube}
+use Rattle.cube.specs.declared.words.Words.{Words}
 use Rattle.cube.specs.declared.cube.Form.{Form}
 use Rattle.cube.specs.declared.cube.Form.TheVariants.{Negative, Positive, Absent}
-use Rattle.cube.specs.BitLaws.{bit_of_or, bit_mask, bits_same, le_or, with_bit_at, without_bit_at, with_bit_lt, without_bit_lt}
+use Rattle.cube.specs.BitLaws.{bit_of_or, bit_mask, bits_same, with_bit_at, without_bit_at, with_bit_lt, without_bit_lt}
 
 pub same_words : (a b : Cube) → a.zeros ≡ b.zeros → a.ones ≡ b.ones → a.outputs ≡ b.outputs → a ≡ b
 same_words a b p q r =
@@ -47,7 +48,7 @@ pub full_from : (z o : ℕ) → z < 2 ^ 32 → o < 2 ^ 32 → ((i : ℕ) → i <
 full_from z o hz ho h = bits_same 32 _ _ (or_lt 32 z o hz ho) (omega arith) (λ i lt. bit_of_or z o i ∙ h i lt ∙ sym (bit_mask 32 i lt))
 
 zeros_lt : (z o : ℕ) → bit_or z o ≡ 4294967295 → z < 2 ^ 32
-zeros_lt z o h = let l = le_or z o in omega arith
+zeros_lt z o h = let l = le_or_l z o in omega arith
 
 ones_lt : (z o : ℕ) → bit_or z o ≡ 4294967295 → o < 2 ^ 32
 ones_lt z o h = zeros_lt o z (or_comm o z ∙ h)

@@ -10,10 +10,11 @@ use Rattle.esop.specs.Kind.{Positions, Laws, either}
 use Rattle.esop.specs.Positionwise.{Positionwise}
 use Rattle.esop.proofs.Positionwise.{and_either, positionwise_lawful}
 use Rattle.cube.specs.Bit.{bit}
-use Rattle.cube.specs.Cubes.{Words, words, made}
+use Rattle.cube.specs.Cubes.{words, made}
 use Rattle.cube.specs.Covering.{value_of, value, meets}
 use Rattle.cube.specs.Positions.{taken_input, taken_outputs, taken_words, mixed_words, unlike, taken, joined, present_inputs, weight_of, cubes}
 use Rattle.cube.specs.declared.cube.Cube.{Cube}
+use Rattle.cube.specs.declared.words.Words.{Words}
 use Rattle.cube.specs.BitLaws.{bit_below, bit_of_xor, by_bits, chosen_at, chosen_lt, xor_low, xor_some}
 use Rattle.cube.specs.MakingLaws.{made_words, full_bit, full_from, inputs_lt}
 use Rattle.cube.specs.CountLaws.{count_le}
@@ -92,27 +93,39 @@ chosen_some true x y v w p q = p refl
 chosen_some false x y v w p q = q
 
 -- each input keeps a form where the one taken has a form
-pub input_full : (a : Cube) (v : Words) (i : ℕ) → i < 32 → Inputs32 v → 0 < value_of v i → bit_or (taken_input (words a) i v).zeros (taken_input (words a) i v).ones ≡ 4294967295
-input_full a v i l n some =
-    full_from _ _ (chosen_lt 32 a.zeros v.zeros (2 ^ i) (inputs_lt a).0 n.0) (chosen_lt 32 a.ones v.ones (2 ^ i) (inputs_lt a).1 n.1)
-    (λ j k. value_form _ _ (bit_below _ j) (bit_below _ j) (at j k))
+input_forms : (a : Cube) (v : Words) (i : ℕ) → i < 32 → 0 < value_of v i → (j : ℕ) → j < 32
+    → bit_or (bit (taken_input (words a) i v).zeros j) (bit (taken_input (words a) i v).ones j) ≡ 1
+input_forms a v i l some j k = value_form _ _ (bit_below _ j) (bit_below _ j) at
   where
     here : 0 < bit v.zeros i + 2 * bit v.ones i
     here = subst (λ n. 0 < n) (cond-true _ _ _ (lt-ltb i 32 l)) some
 
-    at : (j : ℕ) → j < 32 → 0 < bit (taken_input (words a) i v).zeros j + 2 * bit (taken_input (words a) i v).ones j
-    at j k =
+    at : 0 < bit (taken_input (words a) i v).zeros j + 2 * bit (taken_input (words a) i v).ones j
+    at =
         subst (λ n. 0 < n) (sym (ap₂ (λ z o. z + 2 * o) (chosen_at a.zeros v.zeros i j) (chosen_at a.ones v.ones i j)))
         (chosen_some (i == j) _ _ _ _ (λ e. subst (λ m. 0 < bit v.zeros m + 2 * bit v.ones m) (eqb-true i j e) here)
         (form_value_some _ _ (bit_below a.zeros j) (bit_below a.ones j) (full_bit a.zeros a.ones j a.full k)))
+
+-- and so each input has a form in words of 32 inputs that are the ones taken
+pub taken_full : (a : Cube) (v : Words) (i : ℕ) (w : Words) → w ≡ taken_words (words a) i v → Inputs32 w → i < 33 → 0 < value_of v i → bit_or w.zeros w.ones ≡ 4294967295
+taken_full a v i w e n l some = go (nat_lt i 32) refl e
+  where
+    go : (t : Bool) → nat_lt i 32 ≡ t → w ≡ cond t (taken_input (words a) i v) (taken_outputs (words a) v) → bit_or w.zeros w.ones ≡ 4294967295
+    go true h e =
+        full_from _ _ n.0 n.1
+        (λ j k. ap (λ u. bit_or (bit u.zeros j) (bit u.ones j)) e ∙ input_forms a v i (ltb-true i 32 h) some j k)
+    go false h e = ap (λ u. bit_or u.zeros u.ones) e ∙ a.full
 
 module _ (a : Cube) (v : Words) (i : ℕ) (l : i < 33) (n : Inputs32 v) (some : 0 < value_of v i) where
   -- the words of a cube with one position of other words
   put_words : words (made (taken_words (words a) i v)) ≡ taken_words (words a) i v
   put_words =
       made_words (taken_words (words a) i v)
-      (cond_both (nat_lt i 32) (taken_input (words a) i v) (taken_outputs (words a) v) (λ w. bit_or w.zeros w.ones ≡ 4294967295)
-      (λ h. input_full a v i (ltb-true i 32 h) n some) (λ h. a.full))
+      (taken_full a v i (taken_words (words a) i v) refl
+      (cond_both (nat_lt i 32) (taken_input (words a) i v) (taken_outputs (words a) v) Inputs32
+      (λ h. (chosen_lt 32 a.zeros v.zeros (2 ^ i) (inputs_lt a).0 n.0, chosen_lt 32 a.ones v.ones (2 ^ i) (inputs_lt a).1 n.1))
+      (λ h. inputs_lt a))
+      l some)
       (cond_both (nat_lt i 32) (taken_input (words a) i v) (taken_outputs (words a) v) (λ w. 0 < w.outputs)
       (λ h. a.driven) (λ h. subst (λ n. 0 < n) (outputs_at v i h l) some))
 
@@ -164,7 +177,8 @@ weight_bound c = let inputs = present_le c in omega arith
 either_bits : (x y : ℕ) → x < 2 → y < 2 → (bit_xor x y == 1) ≡ either (x == 1) (y == 1)
 either_bits = by_bits (λ x y. (bit_xor x y == 1) ≡ either (x == 1) (y == 1)) refl refl refl refl
 
-mixed_bit : (u v i : ℕ) → (bit (bit_xor u v) i == 1) ≡ either (bit u i == 1) (bit v i == 1)
+-- a bit of an exclusive or is set where exactly one of the two has it set
+pub mixed_bit : (u v i : ℕ) → (bit (bit_xor u v) i == 1) ≡ either (bit u i == 1) (bit v i == 1)
 mixed_bit u v i = ap (λ n. nat_eq n 1) (bit_of_xor u v i) ∙ either_bits (bit u i) (bit v i) (bit_below u i) (bit_below v i)
 
 -- whether the value v lets x through at position i, by whether i is an input

@@ -2,9 +2,10 @@
 use Rattle.std.specs.Prelude.{ℕ, zero, suc, ◌+◌, ◌^◌, Bool, cond, not, ◌&&◌, ◌==◌, bit_xor, nat_lt}
 use Rattle.esop.specs.Kind.{Meaning}
 use Rattle.cube.specs.Bit.{chosen}
-use Rattle.cube.specs.Cubes.{Words, words, words_of, made}
+use Rattle.cube.specs.Cubes.{words, words_of, made}
 use Rattle.cube.specs.Covering.{value, covers}
 use Rattle.cube.specs.declared.cube.Cube.{Cube}
+use Rattle.cube.specs.declared.words.Words.{Words}
 
 -- the words w with input i of the words v
 abbrev pub taken_input : Words → ℕ → Words → Words

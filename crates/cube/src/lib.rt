@@ -7,5 +7,6 @@ mod look;
 mod make;
 #[cfg(test)]
 mod tests;
+mod words;
 
 pub use cube::{Cube, CubeRefusal, Form};

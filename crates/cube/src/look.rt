@@ -10,7 +10,7 @@ pub(crate) fn has(word: u32, i: u32) -> bool
     requires { i < 32 }
     ensures { result ≡ (bit word i == 1) }
 {
-    (word >> i) & 1 == 1
+    (word >> i) % 2 == 1
 }
 
 impl Cube {
@@ -42,13 +42,11 @@ impl Cube {
         if i >= 32 {
             return Form::Absent;
         }
-        if !has(self.zeros, i) {
-            return Form::Positive;
+        match (has(self.zeros, i), has(self.ones, i)) {
+            (true, true) => Form::Absent,
+            (true, false) => Form::Negative,
+            (false, _) => Form::Positive,
         }
-        if !has(self.ones, i) {
-            return Form::Negative;
-        }
-        Form::Absent
     }
 
     // Whether output o is driven; one past the last never is.

@@ -1,28 +1,11 @@
 // Making cubes.
-ghost use Rattle.std.specs.Prelude.{◌≡◌, ◌^◌, ◌<◌, bit_or};
-ghost use Rattle.cube.specs.Cubes.{created, made, formed, words, words_of, with_form, number};
+ghost use Rattle.std.specs.Prelude.{◌≡◌};
+ghost use Rattle.cube.specs.Cubes.{created, made, words_of, with_form};
+ghost use Rattle.cube.specs.Cubes;
 
 use crate::cube::{Cube, CubeRefusal, Form};
-
-// The word with bit i alone.
-pub(crate) fn only(i: u32) -> u32
-    requires { i < 32 }
-    ensures { result ≡ 2 ^ i }
-{
-    1 << i
-}
-
-// The one place where a cube is put together.
-pub(crate) fn assembled(zeros: u32, ones: u32, outputs: u32) -> Cube
-    requires { (bit_or zeros ones ≡ 4294967295) × (0 < outputs) }
-    ensures { result ≡ made (words_of zeros ones outputs) }
-{
-    Cube {
-        zeros,
-        ones,
-        outputs,
-    }
-}
+use crate::words::Words;
+use esop::refusal::Refusal;
 
 impl Cube {
     // The cube of a word of inputs that may be 0, a word of inputs that may be 1, and a word of outputs.
@@ -35,47 +18,42 @@ impl Cube {
         if outputs == 0 {
             return Err(CubeRefusal::NoOutput);
         }
-        Ok(assembled(zeros, ones, outputs))
+        let words = Words {
+            zeros,
+            ones,
+            outputs,
+        };
+        Ok(words.cube())
     }
 
     // The product that looks at no input and drives output 0: what the places of a list may hold before they are used.
     pub fn tautology() -> Cube
         ensures { result ≡ made (words_of 4294967295 4294967295 1) }
     {
-        assembled(0xffff_ffff, 0xffff_ffff, 1)
+        let words = Words {
+            zeros: 0xffff_ffff,
+            ones: 0xffff_ffff,
+            outputs: 1,
+        };
+        words.cube()
     }
 
     // The cube with input i in the given form; the cube itself where there is no such input.
+    #[tactic(auto, using(crate::specs::MakingLaws::formed_full))]
     pub fn with_form(self, i: u32, form: Form) -> Cube
         ensures { result ≡ with_form self i form }
     {
         if i >= 32 {
             return self;
         }
-        reformed(self, i, form)
+        self.words().formed(i, form).cube()
     }
 }
 
-// The cube with input i in the given form.
-fn reformed(cube: Cube, i: u32, form: Form) -> Cube
-    requires { i < 32 }
-    ensures { result ≡ made (formed (words cube) i form) }
-{
-    let at = only(i);
-    let zeros = cube.zeros | at;
-    let ones = cube.ones | at;
-    match form {
-        Form::Negative => assembled(zeros, ones ^ at, cube.outputs),
-        Form::Positive => assembled(zeros ^ at, ones, cube.outputs),
-        Form::Absent => assembled(zeros, ones, cube.outputs),
-    }
-}
+impl Refusal for CubeRefusal {
+    ghost number = { Cubes.number };
 
-impl CubeRefusal {
-    // The number under which it is reported.
-    pub fn number(self) -> u8
-        ensures { result ≡ number self }
-    {
+    fn number(self) -> u8 {
         match self {
             CubeRefusal::NoForm => 8,
             CubeRefusal::NoOutput => 9,

@@ -2,15 +2,8 @@
 // each output; the inputs that it leaves out are absent.
 use crate::cube::{Cube, Form};
 use esop::product::Product;
+use esop::refusal::Refusal;
 use std::test::Fail;
-
-// The number under which the words are refused, or 0.
-fn refused(zeros: u32, ones: u32, outputs: u32) -> u8 {
-    match Cube::new(zeros, ones, outputs) {
-        Ok(_) => 0,
-        Err(refusal) => refusal.number(),
-    }
-}
 
 // The cube with the first two inputs in the given forms.
 fn row(first: Form, second: Form, outputs: u32) -> Result<Cube, Fail> {
@@ -20,8 +13,9 @@ fn row(first: Form, second: Form, outputs: u32) -> Result<Cube, Fail> {
 
 #[test]
 fn refusals(rt: HostRuntime) {
-    assert_eq!(rt; refused(0xffff_fffe, 0xffff_fffe, 0), 8);
-    assert_eq!(rt; refused(0xffff_ffff, 0, 0), 9);
+    let refused = |zeros, ones| Cube::new(zeros, ones, 0).map_err(Refusal::number);
+    assert_eq!(rt; refused(0xffff_fffe, 0xffff_fffe), Err(8));
+    assert_eq!(rt; refused(0xffff_ffff, 0), Err(9));
 }
 
 #[test]

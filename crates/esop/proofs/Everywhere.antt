@@ -1,19 +1,12 @@
 -- A test at every number below a bound.
 -- Assumes nothing.
-use Rattle.std.proofs.Common.{◌≡◌, ℕ, zero, suc, ◌+◌, ◌<◌, Bool, true, false, ◌&&◌, sym, refl, ap, ◌∙◌, ap₂, ⊎_elim, add-one, arith}
-use Rattle.std.proofs.lemmas.Bool.{cases_eq, and_left, and_right, and_from, and_parts}
+use Rattle.std.proofs.Common.{◌≡◌, ℕ, zero, suc, ◌<◌, Bool, true, false, ◌&&◌, sym, refl, ap, ◌∙◌, ap₂, ⊎_elim, arith}
+use Rattle.std.proofs.lemmas.Bool.{cases_eq, and_from, and_parts}
 use Rattle.esop.specs.Positionwise.{everywhere}
-
-pub everywhere_none : (f : ℕ → Bool) → everywhere f 0 ≡ true
-unfolding everywhere
-everywhere_none f = refl
 
 pub everywhere_suc : (f : ℕ → Bool) (n : ℕ) → everywhere f (suc n) ≡ (everywhere f n && f n)
 unfolding everywhere
 everywhere_suc f n = refl
-
-pub everywhere_more : (f : ℕ → Bool) (n : ℕ) → everywhere f n ≡ true → f n ≡ true → everywhere f (n + 1) ≡ true
-everywhere_more f n h t = ap (everywhere f) (add-one n) ∙ everywhere_suc f n ∙ and_from (everywhere f n) (f n) h t
 
 -- tests that agree below n
 pub everywhere_same : (f g : ℕ → Bool) (n : ℕ) → ((j : ℕ) → j < n → f j ≡ g j) → everywhere f n ≡ everywhere g n
@@ -31,15 +24,6 @@ unfolding everywhere
 everywhere_at f zero i l h = absurd (omega arith)
 everywhere_at f (suc n) i l h =
     ⊎_elim (λ (e : i ≡ n). ap f e ∙ (and_parts _ _ h).1) (λ ne. everywhere_at f n i (omega arith) (and_parts _ _ h).0) (cases_eq i n)
-
-pub everywhere_fails : (f : ℕ → Bool) (n j : ℕ) → j < n → f j ≡ false → everywhere f n ≡ false
-unfolding everywhere
-everywhere_fails f zero j lt t = absurd (omega arith)
-everywhere_fails f (suc n) j lt t =
-    ⊎_elim
-    (λ (e : j ≡ n). and_right (everywhere f n) (f n) (ap f (sym e) ∙ t))
-    (λ ne. and_left (everywhere f n) (f n) (everywhere_fails f n j (omega arith) t))
-    (cases_eq j n)
 
 and_true : (b : Bool) → (b && true) ≡ b
 and_true true = refl

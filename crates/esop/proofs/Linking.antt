@@ -97,10 +97,6 @@ module _ {P : Type 0} (m : Meaning P) (laws : Laws m) where
         splits = link_splits t b o n (sym is-k) l ∙ ap (λ y. y ∷ link m (m.taken t first b) b (o % factorial n)) (sym e_x) ∙ ap (λ y. x ∷ link m y b (o % factorial n)) (sym e_next) ∙ ap (λ k. x ∷ link m next b (o % k)) (sym e_f);
       }
 
-  pub result_is : (c : List P) (g : Group P) → result m c g ≡ entered_all m (link m g.a g.b g.number) (without c g)
-  unfolding result
-  result_is c g = refl
-
   -- A group's two products, taken out of the cover.
   module _ (c : List P) (g : Group P) (h : IsGroup m c g) where
     second_in : g.second < length c
@@ -122,14 +118,6 @@ module _ {P : Type 0} (m : Meaning P) (laws : Laws m) where
     pub entering_room : (j : ℕ) → length (entered_all m (take j (link m g.a g.b g.number)) (without c g)) ≤ length c + 2
     entering_room j =
         omega (arith, all_count m laws (take j (link m g.a g.b g.number)) (without c g), length-take j (link m g.a g.b g.number), length_link g.a g.b g.number, length_without, h.four)
-
-    pub next_room : (j : ℕ) → j < length (link m g.a g.b g.number) → length (entered_all m (take j (link m g.a g.b g.number)) (without c g)) + 1 ≤ length c + 2
-    next_room j l =
-        omega (arith, all_count m laws (take j (link m g.a g.b g.number)) (without c g), length-take j (link m g.a g.b g.number), length_link g.a g.b g.number, length_without, h.four)
-
-    pub result_count : length (result m c g) ≤ length c + 2
-    unfolding result
-    result_count = omega (arith, all_count m laws (link m g.a g.b g.number) (without c g), length_link g.a g.b g.number, length_without, h.four)
 
     pub relinks : Relinks m c g
     unfolding result

@@ -6,9 +6,10 @@ use Rattle.esop.specs.Kind.{Meaning}
 use Rattle.esop.specs.Criterion.{Test, Strict}
 use Rattle.esop.specs.Entering.{bit}
 use Rattle.esop.specs.Linking.{Group, IsGroup, span, result, says, Links}
-use Rattle.esop.specs.Running.{groups, spent, finished, Trial, Outcome, after_trial, run_from, run, kept_of, tried_of, at_distance, trial_rows, all_tried, Tries, Lowering, Runs}
+use Rattle.esop.specs.Running.{groups, Trial, Outcome, after_trial, run_from, run, kept_of, tried_of, at_distance, trial_rows, all_tried, Tries, Lowering, Runs}
 use Rattle.esop.specs.Claims.{Running}
 use Rattle.esop.proofs.Groups.{Each, In, groups_are, groups_all, groups_most}
+use Rattle.esop.specs.declared.ending.End.TheVariants.{Spent, Finished}
 
 one_row : (k : ℕ) → 2 ≤ k → k ≤ 4 → bit (eqb k 2) + bit (eqb k 3) + bit (eqb k 4) ≡ 1
 one_row k l u = grind (arith, nat_tests)
@@ -53,11 +54,11 @@ module _ {P : Type 0} (m : Meaning P) (test : Test) where
   record Ran (n : ℕ) (c : List P) (gs : List (Group P)) (r : Outcome P) : Type 0 where
     chain : Links m test c (kept_of r.trials) r.cover
     tries : Tries m test c r.trials r.cover
-    enough : length gs ≤ n → (1 ≤ length (kept_of r.trials)) ⊎ (r.ending ≡ finished)
-    settled : r.ending ≡ finished → (g : Group P) → IsGroup m r.cover g → says m test r.cover g ≡ false
+    enough : length gs ≤ n → (1 ≤ length (kept_of r.trials)) ⊎ (r.ending ≡ Finished)
+    settled : r.ending ≡ Finished → (g : Group P) → IsGroup m r.cover g → says m test r.cover g ≡ false
     in_rows : Each (Spans m) (tried_of r.trials)
     within : length r.trials ≤ n
-    used_up : r.ending ≡ spent → length r.trials ≡ n
+    used_up : r.ending ≡ Spent → length r.trials ≡ n
 
   -- every group of c is still to be tried, or the criterion says no to it
   abbrev Left : List P → List (Group P) → Type 0
@@ -108,7 +109,7 @@ module _ {P : Type 0} (m : Meaning P) (test : Test) where
         used_up = λ z. ap suc (r.used_up z);
       }
 
-  nothing_left : (n : ℕ) (c : List P) → Left c [] → Ran n c [] (record { cover = c; ending = finished; trials = [] })
+  nothing_left : (n : ℕ) (c : List P) → Left c [] → Ran n c [] (record { cover = c; ending = Finished; trials = [] })
   nothing_left n c l =
       record {
         chain = refl;
@@ -120,7 +121,7 @@ module _ {P : Type 0} (m : Meaning P) (test : Test) where
         used_up = λ e. absurd (let z : ◌≡◌ {A = ℕ} 0 1 = cc in omega arith);
       }
 
-  no_budget : (c : List P) (g : Group P) (gs : List (Group P)) → Ran 0 c (g ∷ gs) (record { cover = c; ending = spent; trials = [] })
+  no_budget : (c : List P) (g : Group P) (gs : List (Group P)) → Ran 0 c (g ∷ gs) (record { cover = c; ending = Spent; trials = [] })
   no_budget c g gs =
       record {
         chain = refl;

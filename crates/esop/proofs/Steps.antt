@@ -104,11 +104,6 @@ module _ {P : Type 0} (m : Meaning P) where
   unfolding entered_all
   entered_all_cons p ps c = refl
 
-  pub entered_all_push : (ps : List P) (p : P) (c : List P) → entered_all m (ps ++ p ∷ []) c ≡ entered m p (entered_all m ps c)
-  unfolding entered_all
-  entered_all_push [] p c = refl
-  entered_all_push (q ∷ ps) p c = entered_all_push ps p (entered m q c)
-
   pub spared_all_nil : (c free : List P) → spared_all m [] c free ≡ free
   unfolding spared_all
   spared_all_nil c free = refl
@@ -116,8 +111,3 @@ module _ {P : Type 0} (m : Meaning P) where
   pub spared_all_cons : (p : P) (ps c free : List P) → spared_all m (p ∷ ps) c free ≡ spared_all m ps (entered m p c) (spared m p c free)
   unfolding spared_all
   spared_all_cons p ps c free = refl
-
-  pub spared_all_push : (ps : List P) (p : P) (c free : List P) → spared_all m (ps ++ p ∷ []) c free ≡ spared m p (entered_all m ps c) (spared_all m ps c free)
-  unfolding entered_all spared_all
-  spared_all_push [] p c free = refl
-  spared_all_push (q ∷ ps) p c free = spared_all_push ps p (entered m q c) (spared m q c free)

@@ -5,7 +5,8 @@ use Rattle.esop.specs.Kind.{Meaning, distance}
 use Rattle.esop.specs.Criterion.{Test, Strict}
 use Rattle.esop.specs.Entering.{covering, Apart, entered_all, spared_all}
 use Rattle.esop.specs.Linking.{factorial, Group, result, says}
-use Rattle.esop.specs.Running.{spans, Ending, Rows, Outcome, run, kept_of, trial_rows, KeptLinks, Runs}
+use Rattle.esop.specs.Running.{spans, Rows, Outcome, run, kept_of, trial_rows, KeptLinks, Runs}
+use Rattle.esop.specs.declared.ending.End.{End}
 
 -- What is asked of a cover. A link names its criterion, two places and an order number, a run its criterion and a budget; the last number of
 -- each is that of the places of the work memory.
@@ -19,7 +20,7 @@ pub data Request (P Y : Type 0) : Type 0 where
 pub data Answer : Type 0 where
   counted : ℕ → Answer
   refused : ℕ → Answer
-  ran : Ending → Rows → Answer
+  ran : End → Rows → Answer
 
 -- The state of a cover: what its places hold, those in use and those that are free.
 pub record Held (P : Type 0) : Type 0 where

@@ -4,6 +4,8 @@ use Rattle.esop.specs.Kind.{Meaning, distance}
 use Rattle.esop.specs.Criterion.{Test, Lower}
 use Rattle.esop.specs.Entering.{bit, total_weight}
 use Rattle.esop.specs.Linking.{factorial, Group, IsGroup, span, result, says, Links}
+use Rattle.esop.specs.declared.ending.End.{End}
+use Rattle.esop.specs.declared.ending.End.TheVariants.{Spent, Finished}
 
 -- whether a pair at distance k has groups
 abbrev pub spans : ℕ → Bool
@@ -32,10 +34,6 @@ groups_from m p (a ∷ c) = groups_with m p a (suc p) c ++ groups_from m (suc p)
 abbrev pub groups : {P : Type 0} → Meaning P → List P → List (Group P)
 groups m c = groups_from m 0 c
 
--- a run ends because it has a group left to try and no budget, or because it has no group left to try
-pub data Ending : Type 0 where
-  spent finished : Ending
-
 -- one group tried, and whether its link was kept
 pub record Trial (P : Type 0) : Type 0 where
   pub group : Group P
@@ -43,7 +41,7 @@ pub record Trial (P : Type 0) : Type 0 where
 
 pub record Outcome (P : Type 0) : Type 0 where
   pub cover : List P
-  pub ending : Ending
+  pub ending : End
   pub trials : List (Trial P)
 
 -- an outcome with one trial before the others
@@ -52,9 +50,9 @@ after_trial g b r = record { cover = r.cover; ending = r.ending; trials = record
 
 -- the run that has a budget, the cover c, and the groups of the list still to try
 unfoldable pub run_from : {P : Type 0} → Meaning P → Test → ℕ → List P → List (Group P) → Outcome P
-run_from m test zero c [] = record { cover = c; ending = finished; trials = [] }
-run_from m test zero c (g ∷ gs) = record { cover = c; ending = spent; trials = [] }
-run_from m test (suc n) c [] = record { cover = c; ending = finished; trials = [] }
+run_from m test zero c [] = record { cover = c; ending = Finished; trials = [] }
+run_from m test zero c (g ∷ gs) = record { cover = c; ending = Spent; trials = [] }
+run_from m test (suc n) c [] = record { cover = c; ending = Finished; trials = [] }
 run_from m test (suc n) c (g ∷ gs) =
     cond (says m test c g) (after_trial g true (run_from m test n (result m c g) (groups m (result m c g)))) (after_trial g false (run_from m test n c gs))
 
@@ -116,11 +114,11 @@ pub record KeptLinks {P : Type 0} (m : Meaning P) (test : Test) (c : List P) (ls
 
 -- What is promised of a run with a budget that met the cover c, kept the links of the groups ls, left the cover d, and answered with
 -- its ending e and the record s.
-pub record Runs {P : Type 0} (m : Meaning P) (test : Test) (budget : ℕ) (c : List P) (ls : List (Group P)) (d : List P) (e : Ending) (s : Rows) : Type 0 where
+pub record Runs {P : Type 0} (m : Meaning P) (test : Test) (budget : ℕ) (c : List P) (ls : List (Group P)) (d : List P) (e : End) (s : Rows) : Type 0 where
   -- with a budget for every group it keeps a link, or tries them all
-  pub enough : 12 * length c * (length c - 1) ≤ budget → (1 ≤ length ls) ⊎ (e ≡ finished)
+  pub enough : 12 * length c * (length c - 1) ≤ budget → (1 ≤ length ls) ⊎ (e ≡ Finished)
   -- where it finished, the criterion says no to every group of the cover that it left
-  pub settled : e ≡ finished → (g : Group P) → IsGroup m d g → says m test d g ≡ false
+  pub settled : e ≡ Finished → (g : Group P) → IsGroup m d g → says m test d g ≡ false
   -- the record has its trials row by row, tried and kept; the links kept among them are those of ls
   pub trials : (ts : List (Trial P)) × Tries m test c ts d × (kept_of ts ≡ ls) × (trial_rows m ts ≡ s)
   -- the record has the kept links row by row
@@ -133,4 +131,4 @@ pub record Runs {P : Type 0} (m : Meaning P) (test : Test) (budget : ℕ) (c : L
   pub tried_three : s.three.kept ≤ s.three.tried
   pub tried_four : s.four.kept ≤ s.four.tried
   pub within : all_tried s ≤ budget
-  pub used_up : e ≡ spent → all_tried s ≡ budget
+  pub used_up : e ≡ Spent → all_tried s ≡ budget

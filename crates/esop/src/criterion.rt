@@ -3,8 +3,8 @@ ghost use Rattle.std.specs.Prelude.{◌≡◌};
 ghost use Rattle.esop.specs.Criterion.{Test, Strict, reduce, refine};
 ghost use Rattle.esop.specs.CriterionLaws.{reduce_strict, refine_strict};
 
-// How many products a cover has, and what they weigh together.
-#[derive(Clone, Copy)]
+// How many products a cover has, and what they weigh together. Of two sizes the lower has fewer products, or as many that weigh less.
+#[derive(Clone, Copy, PartialEq, Eq, PartialOrd, Ord, Debug)]
 pub struct Size {
     pub count: usize,
     pub weight: u64,
@@ -36,11 +36,9 @@ impl Criterion for Reduce {
     ghost strict = { λ _. reduce_strict };
 
     fn keeps(&self, distance: usize, before: Size, after: Size) -> bool {
-        let fewer = after.count < before.count;
-        let lower = fewer || (after.count == before.count && after.weight < before.weight);
         match distance {
-            2 => fewer,
-            3 | 4 => lower,
+            2 => after.count < before.count,
+            3 | 4 => after < before,
             _ => false,
         }
     }
@@ -52,7 +50,9 @@ impl Criterion for Refine {
     ghost strict = { λ _. refine_strict };
 
     fn keeps(&self, distance: usize, before: Size, after: Size) -> bool {
-        let near = distance == 2 || distance == 3;
-        near && after.count <= before.count && after.weight < before.weight
+        match distance {
+            2 | 3 => after.count <= before.count && after.weight < before.weight,
+            _ => false,
+        }
     }
 }

@@ -1,9 +1,11 @@
 // Covers of cubes: entries, links and runs, as lists of requests.
-use crate::rows::{cube, row};
+use crate::rows::{Row, cube};
+use cover::record::Record;
 use cover::run::End;
 use cover::serve::{Answer, Request, serve};
 use cube::Cube;
 use esop::product::Product;
+use esop::refusal::Refusal;
 use esop::strategy::Strategy;
 use std::io;
 
@@ -11,31 +13,25 @@ use std::io;
 fn print_answer(rt: &HostRuntime, answer: &Answer) -> io::Result<()> {
     match answer {
         Answer::Entered(Ok(count)) => println!(rt; "entered: {count} products"),
-        Answer::Entered(Err(why)) => print_refusal(rt, why.number()),
+        Answer::Entered(Err(why)) => println!(rt; "refused {}", why.number()),
         Answer::Linked(Ok(count)) => println!(rt; "linked: {count} products"),
-        Answer::Linked(Err(why)) => print_refusal(rt, why.number()),
-        Answer::Ran(Ok((end, record))) => {
-            print_end(rt, *end)?;
-            for r in record.rows {
-                let tried = r.tried;
-                let kept = r.kept;
-                println!(rt; "  tried {tried} kept {kept}")?;
-            }
-            Ok(())
-        }
-        Answer::Ran(Err(why)) => print_refusal(rt, why.number()),
+        Answer::Linked(Err(why)) => println!(rt; "refused {}", why.number()),
+        Answer::Ran(Ok((end, record))) => print_run(rt, *end, record),
+        Answer::Ran(Err(why)) => println!(rt; "refused {}", why.number()),
     }
 }
 
-fn print_refusal(rt: &HostRuntime, number: u8) -> io::Result<()> {
-    println!(rt; "refused {number}")
-}
-
-fn print_end(rt: &HostRuntime, end: End) -> io::Result<()> {
-    match end {
-        End::Spent => println!(rt; "ran, and spent its budget:"),
-        End::Finished => println!(rt; "ran, and finished:"),
+// How a run ended, and its record, a row for each distance.
+fn print_run(rt: &HostRuntime, end: End, record: &Record) -> io::Result<()> {
+    let how = match end {
+        End::Spent => "spent its budget",
+        End::Finished => "finished",
+    };
+    println!(rt; "ran, and {how}:")?;
+    for row in record.rows {
+        println!(rt; "  tried {} kept {}", row.tried, row.kept)?;
     }
+    Ok(())
 }
 
 // Serves the requests on a cover of the places, and prints the answers and the products that are left.
@@ -52,8 +48,12 @@ fn play(
             print_answer(rt, answer)?;
         }
         for product in places.iter().take(count) {
-            let text = row(rt.alloc(), product, 5, 1)?;
-            println!(rt; "{text}")?;
+            let row = Row {
+                cube: *product,
+                inputs: 5,
+                outputs: 1,
+            };
+            println!(rt; "{row}")?;
         }
     }
     Ok(())
@@ -83,26 +83,16 @@ fn both_runs(rt: &HostRuntime, budget: u32) -> io::Result<()> {
     )
 }
 
-fn name_of(criterion: Strategy) -> &'static str {
-    match criterion {
-        Strategy::Reduce => "reduce",
-        Strategy::Refine => "refine",
-    }
-}
-
 // Two rows linked under a criterion by an order number.
 fn one_link(
     rt: &HostRuntime,
-    rows: [&str; 2],
+    [first, second]: [&str; 2],
     criterion: Strategy,
     order: usize,
     work: usize,
 ) -> io::Result<()> {
-    let first = rows[0];
-    let second = rows[1];
-    let name = name_of(criterion);
     println!(rt;
-        "{first}, {second}: link by order {order} under {name}, {work} places of work memory"
+        "{first}, {second}: link by order {order} under {criterion}, {work} places of work memory"
     )?;
     let list = [cube(first, 1), cube(second, 1)];
     let requests = [

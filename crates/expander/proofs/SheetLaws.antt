@@ -8,7 +8,8 @@ use Rattle.expansion.specs.Answers.{asked, expansion_of, counted, filled}
 use Rattle.expansion.specs.declared.refusal.ExpandRefusal.{ExpandRefusal}
 use Rattle.expansion.specs.declared.refusal.ExpandRefusal.TheVariants.{Length}
 use Rattle.expansion.proofs.TableLaws.{inputs_past}
-use Rattle.expander.specs.Printing.{Answered, inputs_among, table_of, sheet_inputs, sheet_from, sheet_of, sheet_or}
+use Rattle.sheet.specs.Refusing.{Answered}
+use Rattle.expander.specs.Printing.{inputs_among, table_of, sheet_inputs, sheet_from, sheet_of, sheet_or}
 use Rattle.expander.specs.declared.refusal.PrintRefusal.{PrintRefusal}
 use Rattle.expander.specs.declared.refusal.PrintRefusal.TheVariants.{Table}
 
@@ -32,11 +33,9 @@ refused (Ok ps) why e = absurd (let z : ◌≡◌ {A = ℕ} 0 1 = cc in omega ar
 refused (Err other) why e = ap Err (let q : other ≡ why = cc in q)
 
 pub of_products : (x : Result (List Cube) ExpandRefusal) (n : ℕ) (l : List Cube) (i j : ℕ) (m m' : List ℕ) (r : Result ℕ PrintRefusal)
-    → Products x n l → i ≡ j → Answered (sheet_or m i (take (n - 0) l)) m r m' → Answered (sheet_from m j x) m r m'
+    → Products x n l → i ≡ j → Answered (sheet_or m i (take n l)) m r m' → Answered (sheet_from m j x) m r m'
 of_products x n l i j m m' r p e h =
-    let z : n - 0 ≡ n = omega arith in
-    let ps : take (n - 0) l ≡ p.products = ap (λ k. take k l) z ∙ p.first in
-    let s : sheet_or m i (take (n - 0) l) ≡ sheet_from m j x = ap₂ (sheet_or m) e ps ∙ sym (ap (sheet_from m j) p.are) in
+    let s : sheet_or m i (take n l) ≡ sheet_from m j x = ap₂ (sheet_or m) e p.first ∙ sym (ap (sheet_from m j) p.are) in
     subst (λ y. Answered y m r m') s h
 
 pub of_refusal : (x : Result (List Cube) ExpandRefusal) (j : ℕ) (m m' : List ℕ) (why : ExpandRefusal) → x ≡ Err why → m' ≡ m
@@ -59,7 +58,6 @@ of_line line t m m' r n e q h =
     ∙ ap (λ k. sheet_from m (inputs_among (inputs_of k)) (expansion_of (table_of line) 0 960)) (length-map line _)) h
 
 -- the part of the table's memory that the line's table lies in
-pub spelled_part : (line t rest : List ℕ) → t ≡ table_of line ++ rest → take (length line - 0) t ≡ table_of line
+pub spelled_part : (line t rest : List ℕ) → t ≡ table_of line ++ rest → take (length line) t ≡ table_of line
 spelled_part line t rest e =
-    let z : length line - 0 ≡ length line = omega arith in
-    ap₂ take z e ∙ take_at (table_of line) rest (length line) (length-map line _)
+    ap (take (length line)) e ∙ take_at (table_of line) rest (length line) (length-map line _)

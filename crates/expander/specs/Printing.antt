@@ -6,7 +6,7 @@ use Rattle.expansion.specs.Answers.{expansion_of}
 use Rattle.expansion.specs.declared.refusal.ExpandRefusal.{ExpandRefusal}
 use Rattle.sheet.specs.Text.{sheet_text}
 use Rattle.sheet.specs.Writing.{sheet_refusal, written}
-use Rattle.sheet.specs.Refusing.{refusal_text}
+use Rattle.sheet.specs.Refusing.{printed_by}
 use Rattle.expander.specs.Refusals.{number}
 use Rattle.expander.specs.declared.refusal.PrintRefusal.{PrintRefusal}
 use Rattle.expander.specs.declared.refusal.PrintRefusal.TheVariants.{Table, Sheet}
@@ -44,28 +44,5 @@ abbrev pub sheet_of : List ℕ → List ℕ → Result (List ℕ) PrintRefusal
 sheet_of m line = sheet_from m (sheet_inputs line) (expansion_of (table_of line) 0 960)
 
 -- the bytes that are printed
-abbrev pub printed_from : Result (List ℕ) PrintRefusal → List ℕ
-printed_from (Ok text) = text
-printed_from (Err why) = refusal_text (number why)
-
 abbrev pub printed : List ℕ → List ℕ → List ℕ
-printed m input = printed_from (sheet_of m (line_of input))
-
--- the length of a sheet's text, or the refusal
-abbrev pub length_or : Result (List ℕ) PrintRefusal → Result ℕ PrintRefusal
-length_or (Ok text) = Ok (length text)
-length_or (Err why) = Err why
-
-abbrev pub memory_or : Result (List ℕ) PrintRefusal → List ℕ → List ℕ
-memory_or (Ok text) m = written m 0 text
-memory_or (Err why) m = m
-
-abbrev pub Fits : Result (List ℕ) PrintRefusal → List ℕ → Type 0
-Fits (Ok text) m = length text ≤ length m
-Fits (Err why) m = Unit {0}
-
--- a sheet, if there is one, fits the memory m and was written to its start; r is the answer and m' what the memory holds
-pub record Answered (sheet : Result (List ℕ) PrintRefusal) (m : List ℕ) (r : Result ℕ PrintRefusal) (m' : List ℕ) : Type 0 where
-  pub answer : r ≡ length_or sheet
-  pub memory : m' ≡ memory_or sheet m
-  pub fits : Fits sheet m
+printed m input = printed_by number (sheet_of m (line_of input))

@@ -2,43 +2,35 @@
 ghost use Rattle.std.specs.Prelude.{◌≡◌, length};
 ghost use Rattle.expansion.specs.Answers.{expansion_of};
 ghost use Rattle.expansion.specs.Tables.{inputs_of};
-ghost use Rattle.sheet.specs.Refusing.{length_within, kept_within};
-ghost use Rattle.expander.specs.Printing.{Answered, inputs_among, sheet_from, sheet_of, sheet_or, printed};
+ghost use Rattle.sheet.specs.Refusing.{length_within, kept_within, Answered};
+ghost use Rattle.expander.specs.Printing.{inputs_among, sheet_from, sheet_of, sheet_or, printed};
 
 use crate::line::{line_of, spell};
 use crate::refusal::PrintRefusal;
 use cube::Cube;
 use expansion::{ExpandRefusal, expand, inputs_of};
-use sheet::{write_refusal, write_sheet};
+use sheet::{write_answer, write_sheet};
 
 // The inputs of the sheet of a line of this length.
 fn sheet_inputs(len: usize) -> u32
     ensures { result ≡ inputs_among (inputs_of len) }
 {
-    match inputs_of(len) {
-        Some(k) => k.max(1),
-        None => 1,
-    }
+    inputs_of(len).unwrap_or(1).max(1)
 }
 
 // Writes the sheet of the products.
 fn put_sheet(inputs: u32, products: &[Cube], text: &mut [u8]) -> Result<usize, PrintRefusal>
     ensures { Answered (sheet_or text.old inputs products.now) text.old result text.new }
 {
-    match write_sheet(text, inputs, 1, products) {
-        Ok(len) => Ok(len),
-        Err(why) => Err(PrintRefusal::Sheet(why)),
-    }
+    Ok(write_sheet(text, inputs, 1, products)?)
 }
 
 // Expands the table into the list, and writes the sheet of its products.
 fn sheet_with(table: &mut [u8], list: &mut [Cube], text: &mut [u8]) -> Result<usize, PrintRefusal>
     ensures { Answered (sheet_from text.old (inputs_among (inputs_of (length table.old))) (expansion_of table.old 0 (length list.old))) text.old result text.new }
 {
-    match expand(table, 0, list) {
-        Ok(count) => put_sheet(sheet_inputs(table.len()), &list[0..count], text),
-        Err(why) => Err(PrintRefusal::Table(why)),
-    }
+    let count = expand(table, 0, list)?;
+    put_sheet(sheet_inputs(table.len()), &list[..count], text)
 }
 
 // Writes the sheet of a line. A line longer than a table can be has no place in the table's memory.
@@ -52,7 +44,7 @@ fn sheet_of(line: &[u8], text: &mut [u8]) -> Result<usize, PrintRefusal>
     let mut table = [0u8; 1024];
     let mut list = [Cube::tautology(); 960];
     spell(line, &mut table);
-    sheet_with(&mut table[0..n], &mut list, text)
+    sheet_with(&mut table[..n], &mut list, text)
 }
 
 // Writes what is printed for an input to the start of the text memory, and answers the number of its bytes; where the
@@ -61,8 +53,6 @@ pub fn print_expansion(input: &[u8], text: &mut [u8]) -> Option<usize>
     ensures answer { result ≡ length_within text.old (printed text.old input.now) }
     ensures text { text.new ≡ kept_within text.old (printed text.old input.now) }
 {
-    match sheet_of(line_of(input), text) {
-        Ok(len) => Some(len),
-        Err(why) => write_refusal(text, why.number()),
-    }
+    let answer = sheet_of(line_of(input), text);
+    write_answer(text, answer)
 }

@@ -6,11 +6,7 @@ ghost use Rattle.expander.specs.Printing.{line_of, table_of};
 pub(crate) fn line_of(input: &[u8]) -> &[u8]
     ensures { result.now ≡ line_of input.now }
 {
-    let n = input.len();
-    if n > 0 && input[n - 1] == b'\n' {
-        return &input[0..n - 1];
-    }
-    input
+    input.strip_suffix(b"\n").unwrap_or(input)
 }
 
 // Writes the bytes that the characters spell to the start of the table.
@@ -18,7 +14,8 @@ pub(crate) fn spell(line: &[u8], table: &mut [u8])
     requires { length line.now ≤ length table.old }
     ensures { table.new ≡ table_of line.now ++ drop (length line.now) table.old }
 {
-    for i in 0..line.len() {
-        table[i] = line[i] ^ b'0';
+    // An index, since a loop over `table.iter_mut()` zipped with the line says nothing of what it leaves in the table.
+    for (i, char) in line.iter().enumerate() {
+        table[i] = *char ^ b'0';
     }
 }

@@ -1,16 +1,15 @@
 -- What the call answers, from what its steps did.
 -- Assumes nothing.
 use Rattle.std.proofs.Common.{◌≡◌, ℕ, ◌+◌, ◌-◌, ◌*◌, ◌/◌, ◌%◌, ◌^◌, ◌<◌, ◌≤◌, true, cond, ◌&&◌, eqb, ltb, leb, List, ◌++◌, length, get_or, take, drop, Some, Ok, Err, sym, refl, ap, ◌∙◌, subst, ap₂, ⊎_elim, mul_assoc, arith, pow_pos, pow_mono, pow-add}
-use lib.Seq.{paste}
 use Rattle.std.proofs.lemmas.Nat.{mod_low, shr_high, pow_below}
-use Rattle.std.proofs.lemmas.List.Edits.{paste_all}
 use Rattle.std.proofs.lemmas.List.{take_at}
 use Rattle.std.proofs.lemmas.Bool.{cases_order, cases_lt, cond-true, cond-false, eq-eqb, lt-ltb, le-leb, lt-leb}
 use Rattle.cube.specs.Bit.{bit}
 use Rattle.cube.specs.Cubes.{words, words_of}
 use Rattle.cube.specs.Covering.{value, meets, covers, covering}
 use Rattle.cube.specs.declared.cube.Cube.{Cube}
-use Rattle.cube.specs.BitLaws.{bit_mask, bit_pow_same}
+use Rattle.std.proofs.lemmas.Nat.Bits.{bit_at-pow_same}
+use Rattle.cube.specs.BitLaws.{bit_mask}
 use Rattle.cube.specs.MakingLaws.{made_words}
 use Rattle.esop.proofs.Everywhere.{everywhere_all}
 use Rattle.cube.proofs.CoveringLaws.{absent_meets}
@@ -50,7 +49,7 @@ start_covers u p hu hp =
     last : meets 32 (value (start_of u) 32) x ≡ true
     last =
         ap₂ ◌&&◌ (ap (λ o. ltb o 32) output ∙ lt-ltb u 32 hu)
-        (ap₂ (λ v o. eqb (bit v o) 1) (ap (λ w. w.outputs) (start_words u)) output ∙ eq-eqb _ 1 (bit_pow_same u))
+        (ap₂ (λ v o. eqb (bit v o) 1) (ap (λ w. w.outputs) (start_words u)) output ∙ eq-eqb _ 1 (bit_at-pow_same u))
 
 -- ---- the laws, for a table of 2 ^ k bytes
 
@@ -95,15 +94,14 @@ module _ (k : ℕ) (t : List ℕ) (u : ℕ) (l : List Cube) (ins : inputs_of (le
       let e = asked_last ∙ cond-false _ _ _ (lt-leb (needed k t) (length l) h) in
       record { answer = sym (ap counted e); table = et; list = el ∙ sym (ap (λ r. filled r l) e); fewest = tt; meaning = tt }
 
-  pub placed : (n : ℕ) (t' : List ℕ) (l' : List Cube) → needed k t ≤ length l → n ≡ 0 + needed k t → t' ≡ t
-      → l' ≡ paste l 0 (chosen_products k t (start_of u)) (needed k t) → Expanded t u l (Ok n) t' l'
+  pub placed : (n : ℕ) (t' : List ℕ) (l' : List Cube) → needed k t ≤ length l → n ≡ needed k t → t' ≡ t
+      → l' ≡ chosen_products k t (start_of u) ++ drop (needed k t) l → Expanded t u l (Ok n) t' l'
   placed n t' l' h en et el =
       let ps = chosen_products k t (start_of u) in
       let e = asked_last ∙ cond-true _ _ _ (le-leb (needed k t) (length l) h) in
       let long : length ps ≡ needed k t = length_products k (chosen k t) t (start_of u) in
       let count : n ≡ length ps = omega arith in
-      let zeroth : 0 + needed k t ≡ length ps = omega arith in
-      let list : l' ≡ ps ++ drop (length ps) l = el ∙ paste_all l 0 ps (needed k t) (sym long) ∙ ap (λ m. ps ++ drop m l) zeroth in
+      let list : l' ≡ ps ++ drop (length ps) l = el ∙ ap (λ m. ps ++ drop m l) (sym long) in
       let len = table_length.1 in
       record {
         answer = ap Ok count ∙ sym (ap counted e);

@@ -13,11 +13,11 @@ use Rattle.cube.specs.declared.cube.Form.{Form}
 use Rattle.cube.specs.BitLaws.{bit_below}
 use Rattle.cube.proofs.CoveringLaws.{form_value, form_at_index, form_covers}
 use Rattle.expansion.specs.Splits.{low, high, sum, first_part, second_part, first_form, second_form}
-use Rattle.expansion.specs.Expansions.{Expansion, cost, products, split_at, needed}
+use Rattle.expansion.specs.Expansions.{Expansion, cost, products, needed}
 use Rattle.expansion.specs.declared.split.Split.{Split}
 use Rattle.expansion.specs.declared.split.Split.TheVariants.{Shannon, PositiveDavio, NegativeDavio}
 use Rattle.expansion.proofs.TableLaws.{length_mixed, get_d_mixed}
-use Rattle.expansion.proofs.SplitLaws.{spent_is, cheapest_least, needed_suc}
+use Rattle.expansion.proofs.SplitLaws.{taken, spent_is, cheapest_least, needed_suc}
 
 -- ---- none has fewer products
 
@@ -28,7 +28,7 @@ fewest (suc k) e t =
     let s = e.0 in
     let a = fewest k e.1 (first_part s k t) in
     let b = fewest k e.2 (second_part s k t) in
-    let here = needed_suc k t ∙ sym (spent_is (split_at (suc k) t) k t) in
+    let here = needed_suc k t ∙ sym (spent_is (taken (suc k) t) k t) in
     let least = cheapest_least s (needed k (low k t)) (needed k (high k t)) (needed k (sum k t)) in
     let there = spent_is s k t in
     omega arith

@@ -3,3 +3,4 @@ pub mod SplitLaws
 pub mod EmitLaws
 pub mod AnswerLaws
 pub mod ExpansionLaws
+pub mod SurveyLaws

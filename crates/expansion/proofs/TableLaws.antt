@@ -1,10 +1,13 @@
 -- Tables, their halves, and parts that are lent and given back.
 -- Assumes nothing.
-use Rattle.std.proofs.Common.{◌≡◌, ℕ, zero, suc, ◌+◌, ◌-◌, ◌/◌, ◌^◌, ◌<◌, ◌≤◌, true, false, ◌&&◌, ltb, List, [], ◌∷◌, ◌++◌, length, get_or, take, drop, Some, None, sym, refl, ap, ◌∙◌, ap₂, ⊎_elim, pow-suc, arith, pow_mono}
+use Rattle.std.proofs.Common.{◌≡◌, ◌≢◌, Bool, Option, eqb, subst, ℕ, zero, suc, ◌+◌, ◌-◌, ◌/◌, ◌^◌, ◌<◌, ◌≤◌, true, false, ltb, List, [], ◌∷◌, ◌++◌, length, get_or, take, drop, Some, None, sym, refl, ap, ◌∙◌, ap₂, ⊎_elim, pow-suc, arith, pow_mono}
+use lib.Count.{ones, count_trailing_zeros}
 use lib.Bits.{bit_xor, xor_assoc, xor_self, xor_zero_r}
-use borrow.Rule.Slice.PartMut.{put_mid, post_of}
-use Rattle.std.proofs.lemmas.List.{length-take-le, length-drop, get_or-take, get_or-drop, length-append, take_at, drop_at, ext_get_or, get_or_append_left, get_or-append_right, take-append-drop, take_rest, drop_more, drop_all}
-use Rattle.std.proofs.lemmas.Bool.{cases_lt, cases_eq, and_parts, ltb-true, lt-ltb, le-ltb, cond-true, cond-false, eq-eqb, ne_eqb}
+use borrow.Rule.Slice.PartMut.{put_mid}
+use Rattle.std.proofs.lemmas.List.{length-take-le, length-drop, length-append, take_at, drop_at, ext_get_or, take-append-drop, take_rest}
+use Rattle.std.proofs.lemmas.Bool.{eqb-true, false≢true, cases_eq, and_parts, ltb-true, cond-true, cond-false, eq-eqb, ne_eqb}
+use Rattle.esop.specs.Positionwise.{everywhere}
+use Rattle.esop.proofs.Everywhere.{everywhere_at}
 use Rattle.expansion.specs.Tables.{binary, exponent_below, inputs_of, mixed, folded}
 
 pub length_mixed : (xs ys : List ℕ) → length (mixed xs ys) ≡ length xs
@@ -18,39 +21,22 @@ get_d_mixed (x ∷ xs) [] k h e = absurd (omega arith)
 get_d_mixed (x ∷ xs) (y ∷ ys) zero h e = refl
 get_d_mixed (x ∷ xs) (y ∷ ys) (suc k) h e = get_d_mixed xs ys k (omega arith) (omega arith)
 
-mixed_twice : (xs ys : List ℕ) → mixed (mixed xs ys) ys ≡ xs
+pub mixed_twice : (xs ys : List ℕ) → mixed (mixed xs ys) ys ≡ xs
 mixed_twice [] ys = refl
 mixed_twice (x ∷ xs) [] = refl
 mixed_twice (x ∷ xs) (y ∷ ys) = ap₂ ◌∷◌ (xor_assoc x y y ∙ ap (bit_xor x) (xor_self y) ∙ xor_zero_r x) (mixed_twice xs ys)
 
--- a table by its places: the lower half as it was, the upper half with the lower xored in
-pub folded_from : (t u : List ℕ) (n : ℕ) → n + n ≡ length t → length u ≡ length t
-    → ((k : ℕ) → k < n → get_or u k 0 ≡ get_or t k 0)
-    → ((k : ℕ) → k < n → get_or u (n + k) 0 ≡ bit_xor (get_or t (n + k) 0) (get_or t k 0))
-    → u ≡ folded n t
-folded_from t u n e l low high =
-    let lt : length (take n t) ≡ n = length-take-le n t (omega arith) in
-    let ld = length-drop n t in
-    let lm = length_mixed (drop n t) (take n t) in
-    let la = length-append (take n t) (mixed (drop n t) (take n t)) in
-    ext_get_or 0 u _ (omega arith)
-    (λ k h. ⊎_elim
-    (λ (b : k < n). low k b ∙ sym (get_or_append_left (take n t) _ 0 k (omega arith) ∙ get_or-take n t k 0 b))
-    (λ (b : n ≤ k).
-    let q : n + (k - n) ≡ k = omega arith in
-    ap (λ j. get_or u j 0) (sym q) ∙ high (k - n) (omega arith)
-    ∙ ap₂ bit_xor (sym (get_or-drop n t (k - n) 0)) (sym (get_or-take n t (k - n) 0 (omega arith)))
-    ∙ sym (get_d_mixed (drop n t) (take n t) (k - n) (omega arith) (omega arith))
-    ∙ sym (get_or-append_right (take n t) _ n k 0 lt b))
-    (cases_lt k n))
+-- exclusive or, by the places
+pub mixed_from : (xs ys zs : List ℕ) → length ys ≡ length xs → length zs ≡ length xs
+    → ((k : ℕ) → k < length xs → get_or zs k 0 ≡ bit_xor (get_or xs k 0) (get_or ys k 0)) → zs ≡ mixed xs ys
+mixed_from xs ys zs e l at =
+    let m = length_mixed xs ys in
+    ext_get_or 0 zs (mixed xs ys) (omega arith) (λ k h. at k (omega arith) ∙ sym (get_d_mixed xs ys k (omega arith) (sym e)))
 
 -- a part that holds what it held goes back to its place unchanged
 pub part_back : (a n : ℕ) (xs ys : List ℕ) → ys ≡ take n (drop a xs) → put_mid a n xs ys ≡ xs
 part_back a n xs ys e =
     ap (λ l. take a xs ++ (l ++ drop n (drop a xs))) e ∙ ap (λ l. take a xs ++ l) (take-append-drop n (drop a xs)) ∙ take-append-drop a xs
-
-pub front_back : (n : ℕ) (xs ys : List ℕ) → ys ≡ take n xs → ys ++ post_of 0 n xs ≡ xs
-front_back n xs ys e = ap (λ l. l ++ drop n xs) e ∙ take-append-drop n xs
 
 -- a table of two halves of h bytes
 module _ (h : ℕ) (t : List ℕ) (two : h + h ≡ length t) where
@@ -98,30 +84,6 @@ binary_at [] h i l = absurd (omega arith)
 binary_at (b ∷ t) h zero l = ltb-true b 2 (and_parts (ltb b 2) (binary t) h).0
 binary_at (b ∷ t) h (suc i) l = binary_at t (and_parts (ltb b 2) (binary t) h).1 i (omega arith)
 
--- the bytes from place i on, byte by byte
-pub binary_more : (t : List ℕ) (i : ℕ) → i < length t → get_or t i 0 < 2 → binary (drop i t) ≡ binary (drop (i + 1) t)
-binary_more t i l h = ap binary (drop_more t i 0 l) ∙ ap (λ b. b && binary (drop (i + 1) t)) (lt-ltb _ 2 h)
-
-pub binary_stop : (t : List ℕ) (i : ℕ) → i < length t → 2 ≤ get_or t i 0 → binary (drop i t) ≡ false
-binary_stop t i l h = ap binary (drop_more t i 0 l) ∙ ap (λ b. b && binary (drop (i + 1) t)) (le-ltb _ 2 h)
-
-pub binary_end : (t : List ℕ) (i : ℕ) → length t ≤ i → binary (drop i t) ≡ true
-binary_end t i l = ap binary (drop_all i t l)
-
--- the exponent, tried from the greatest down
-pub exponent_here : (k n : ℕ) → n ≡ 2 ^ k → exponent_below (suc k) n ≡ Some k
-unfolding exponent_below
-exponent_here k n e = cond-true _ _ _ (eq-eqb n (2 ^ k) e)
-
-pub exponent_less : (k n : ℕ) → (n ≡ 2 ^ k → ⊥) → exponent_below (suc k) n ≡ exponent_below k n
-unfolding exponent_below
-exponent_less k n ne = cond-false _ _ _ (ne_eqb n (2 ^ k) ne)
-
-pub exponent_none : (k n : ℕ) → k ≡ 0 → exponent_below k n ≡ None
-unfolding exponent_below
-exponent_none zero n e = refl
-exponent_none (suc k) n e = absurd (omega arith)
-
 -- an exponent that is found is one, and below the bound
 pub exponent_found : (b n k : ℕ) → exponent_below b n ≡ Some k → (k < b) × (n ≡ 2 ^ k)
 unfolding exponent_below
@@ -147,3 +109,39 @@ exponent_past (suc b) n l =
 pub inputs_past : (n : ℕ) → 1024 < n → inputs_of n ≡ None
 inputs_past n h =
     exponent_past 11 n (λ k l. let m : k ≤ 10 = omega arith in let p : 2 ^ k ≤ 2 ^ 10 = pow_mono m in omega arith)
+
+-- a shorter one, by a look at each length: the exponent is the number of zeros behind the one bit
+matches : Bool → Option ℕ → ℕ → Bool
+matches true None e = false
+matches true (Some k) e = eqb k e
+matches false None e = true
+matches false (Some k) e = false
+
+matches_some : (o : Option ℕ) (e : ℕ) → matches true o e ≡ true → o ≡ Some e
+unfolding matches
+matches_some None e h = absurd (false≢true h)
+matches_some (Some k) e h = ap Some (eqb-true k e h)
+
+matches_none : (o : Option ℕ) (e : ℕ) → matches false o e ≡ true → o ≡ None
+unfolding matches
+matches_none None e h = refl
+matches_none (Some k) e h = absurd (false≢true h)
+
+looked_at : ℕ → Bool
+looked_at n = matches (eqb (ones n) 1) (exponent_below 11 n) (count_trailing_zeros 64 n)
+
+all_looked_at : everywhere looked_at 1025 ≡ true
+unfolding everywhere looked_at matches exponent_below ones count_trailing_zeros
+all_looked_at = refl
+
+pub inputs_some : (n : ℕ) → n ≤ 1024 → ones n ≡ 1 → inputs_of n ≡ Some (count_trailing_zeros 64 n)
+unfolding looked_at
+inputs_some n l one =
+    matches_some (exponent_below 11 n) (count_trailing_zeros 64 n)
+    (subst (λ t. matches t (exponent_below 11 n) (count_trailing_zeros 64 n) ≡ true) (eq-eqb (ones n) 1 one) (everywhere_at looked_at 1025 n (omega arith) all_looked_at))
+
+pub inputs_none : (n : ℕ) → n ≤ 1024 → (ones n ≢ 1) → inputs_of n ≡ None
+unfolding looked_at
+inputs_none n l other =
+    matches_none (exponent_below 11 n) (count_trailing_zeros 64 n)
+    (subst (λ t. matches t (exponent_below 11 n) (count_trailing_zeros 64 n) ≡ true) (ne_eqb (ones n) 1 other) (everywhere_at looked_at 1025 n (omega arith) all_looked_at))

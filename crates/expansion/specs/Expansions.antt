@@ -1,10 +1,9 @@
 -- Pseudo-Kronecker expansions of a table in its input order, and the one that is chosen.
-use Rattle.std.specs.Prelude.{ℕ, zero, suc, ◌+◌, cond, List, [], ◌∷◌, ◌++◌, ◌==◌, slice_index}
+use Rattle.std.specs.Prelude.{ℕ, zero, suc, ◌+◌, cond, List, [], ◌∷◌, ◌++◌, Some, None, Option, ◌==◌, slice_index}
 use Rattle.cube.specs.Cubes.{with_form}
 use Rattle.cube.specs.declared.cube.Cube.{Cube}
 use Rattle.expansion.specs.Splits.{cheapest, low, high, sum, first_part, second_part, first_form, second_form}
 use Rattle.expansion.specs.declared.split.Split.{Split}
-use Rattle.expansion.specs.declared.split.Split.TheVariants.{Shannon}
 
 -- an expansion of a table of 2 ^ k bytes: one of the three splits at every part, and an expansion of each part kept
 abbrev pub Expansion : ℕ → Type 0
@@ -35,9 +34,9 @@ chosen (suc k) t =
     let s = split_by k (chosen k) t in (s, chosen k (first_part s k t), chosen k (second_part s k t))
 
 -- how a table of 2 ^ k bytes is split; one of one byte is not
-abbrev pub split_at : ℕ → List ℕ → Split
-split_at zero t = Shannon
-split_at (suc k) t = split_by k (chosen k) t
+abbrev pub split_at : ℕ → List ℕ → Option Split
+split_at zero t = None
+split_at (suc k) t = Some (split_by k (chosen k) t)
 
 abbrev pub needed : ℕ → List ℕ → ℕ
 needed k t = cost k (chosen k t) t

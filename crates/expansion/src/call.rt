@@ -1,6 +1,6 @@
 // The public call: its questions in order, then the products.
-ghost use Rattle.std.specs.Prelude.{◌≡◌, ◌^◌, ◌<◌, ◌≤◌, true, length, Some};
-ghost use Rattle.expansion.specs.Tables.{binary, exponent_below, inputs_of};
+ghost use Rattle.std.specs.Prelude.{◌≡◌, ◌<◌, true, length, Some};
+ghost use Rattle.expansion.specs.Tables.{binary, inputs_of};
 ghost use Rattle.expansion.specs.Answers.{Expanded, start_of};
 
 use crate::emit::emit;
@@ -8,36 +8,19 @@ use crate::refusal::ExpandRefusal;
 use crate::survey::survey;
 use cube::Cube;
 
-// The exponent below `most` of the power of two that n is.
-fn exponent_below(most: u32, n: usize) -> Option<u32>
-    requires { most ≤ 64 }
-    ensures { result ≡ exponent_below most n }
-{
-    for k in (0..most).rev() {
-        if n == 1 << k {
-            return Some(k);
-        }
-    }
-    None
-}
-
 // The number of inputs of a table of this length, where it is a power of two from 1 to 1,024.
+#[tactic(auto, using(crate::proofs::TableLaws::inputs_some, crate::proofs::TableLaws::inputs_none, crate::proofs::TableLaws::inputs_past))]
 pub fn inputs_of(len: usize) -> Option<u32>
     ensures { result ≡ inputs_of len }
 {
-    exponent_below(11, len)
+    (len <= 1024 && len.is_power_of_two()).then_some(len.trailing_zeros())
 }
 
 // Whether each byte is 0 or 1.
 fn is_binary(table: &[u8]) -> bool
     ensures { result ≡ binary table.now }
 {
-    for b in table {
-        if *b > 1 {
-            return false;
-        }
-    }
-    true
+    table.iter().all(|byte| *byte < 2)
 }
 
 // The product of no input that drives one output.
@@ -45,22 +28,21 @@ fn start(output: u32) -> Cube
     requires { output < 32 }
     ensures { result ≡ start_of output }
 {
-    match Cube::new(0xffff_ffff, 0xffff_ffff, 1 << output) {
-        Ok(cube) => cube,
-        Err(_) => unreachable(),
-    }
+    Cube::new(0xffff_ffff, 0xffff_ffff, 1 << output).unwrap()
 }
 
 // The last question, and the products.
 fn place(table: &mut [u8], k: u32, output: u32, list: &mut [Cube]) -> Result<usize, ExpandRefusal>
-    requires { (inputs_of (length table.old) ≡ Some k) × ((binary table.old ≡ true) × (output < 32)) }
+    requires inputs { inputs_of (length table.old) ≡ Some k }
+    requires bytes { binary table.old ≡ true }
+    requires output { output < 32 }
     ensures { Expanded table.old output list.old result table.new list.new }
 {
     let count = survey(table, k).count as usize;
     if count > list.len() {
         return Err(ExpandRefusal::Room);
     }
-    Ok(emit(table, k, start(output), list, 0))
+    Ok(emit(table, k, start(output), list))
 }
 
 // Writes the products of the table's cheapest expansion to the list from its start, each driving this output alone, and
@@ -68,9 +50,7 @@ fn place(table: &mut [u8], k: u32, output: u32, list: &mut [Cube]) -> Result<usi
 pub fn expand(table: &mut [u8], output: u32, list: &mut [Cube]) -> Result<usize, ExpandRefusal>
     ensures { Expanded table.old output list.old result table.new list.new }
 {
-    let Some(k) = inputs_of(table.len()) else {
-        return Err(ExpandRefusal::Length);
-    };
+    let k = inputs_of(table.len()).ok_or(ExpandRefusal::Length)?;
     if !is_binary(table) {
         return Err(ExpandRefusal::Byte);
     }

@@ -1,6 +1,8 @@
 // Why a table was not expanded.
 ghost use Rattle.std.specs.Prelude.{◌≡◌};
-ghost use Rattle.expansion.specs.Refusals.{number};
+ghost use Rattle.expansion.specs.Refusals;
+
+use esop::refusal::Refusal;
 
 #[derive(Clone, Copy, PartialEq, Eq, Debug)]
 pub enum ExpandRefusal {
@@ -10,11 +12,10 @@ pub enum ExpandRefusal {
     Room,
 }
 
-impl ExpandRefusal {
-    // The number under which it is reported.
-    pub fn number(self) -> u8
-        ensures { result ≡ number self }
-    {
+impl Refusal for ExpandRefusal {
+    ghost number = { Refusals.number };
+
+    fn number(self) -> u8 {
         match self {
             ExpandRefusal::Length => 13,
             ExpandRefusal::Byte => 14,

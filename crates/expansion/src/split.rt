@@ -1,6 +1,6 @@
 // The three ways to split a function f at an input x into halves f0 (x = 0) and f1 (x = 1), f2 being their
 // exclusive or.
-ghost use Rattle.std.specs.Prelude.{◌≡◌, ◌+◌, ◌≤◌};
+ghost use Rattle.std.specs.Prelude.{◌≡◌, ◌≤◌, Some};
 ghost use Rattle.expansion.specs.Splits.{cheapest, spent, first_form, second_form, first_from};
 
 use cube::Form;
@@ -15,34 +15,30 @@ pub(crate) enum Split {
     NegativeDavio,
 }
 
-// A way to split, and how many products the two parts it keeps need together.
+// How a table is split, and how many products it needs: where it is split, the two parts that are kept together.
 #[derive(Clone, Copy)]
 pub(crate) struct Choice {
-    pub(crate) split: Split,
+    // none in a table of one byte
+    pub(crate) split: Option<Split>,
     pub(crate) count: u32,
 }
 
 // Leaves out the part that needs most: of equals f0 first, then f1.
 pub(crate) fn choose(low: u32, high: u32, sum: u32) -> Choice
-    requires { (low ≤ 1024) × ((high ≤ 1024) × (sum ≤ 1024)) }
-    ensures split { result.split ≡ cheapest low high sum }
+    requires { (low ≤ 1024) × (high ≤ 1024) × (sum ≤ 1024) }
+    ensures split { result.split ≡ Some (cheapest low high sum) }
     ensures count { result.count ≡ spent (cheapest low high sum) low high sum }
 {
-    if high <= low && sum <= low {
-        return Choice {
-            split: Split::NegativeDavio,
-            count: high + sum,
-        };
-    }
-    if low <= high && sum <= high {
-        return Choice {
-            split: Split::PositiveDavio,
-            count: low + sum,
-        };
-    }
+    let (split, count) = if high <= low && sum <= low {
+        (Split::NegativeDavio, high + sum)
+    } else if low <= high && sum <= high {
+        (Split::PositiveDavio, low + sum)
+    } else {
+        (Split::Shannon, low + high)
+    };
     Choice {
-        split: Split::Shannon,
-        count: low + high,
+        split: Some(split),
+        count,
     }
 }
 
@@ -53,8 +49,7 @@ impl Split {
     {
         match self {
             Split::Shannon => Form::Negative,
-            Split::PositiveDavio => Form::Absent,
-            Split::NegativeDavio => Form::Absent,
+            Split::PositiveDavio | Split::NegativeDavio => Form::Absent,
         }
     }
 
@@ -63,8 +58,7 @@ impl Split {
         ensures { result ≡ second_form self }
     {
         match self {
-            Split::Shannon => Form::Positive,
-            Split::PositiveDavio => Form::Positive,
+            Split::Shannon | Split::PositiveDavio => Form::Positive,
             Split::NegativeDavio => Form::Negative,
         }
     }
@@ -74,8 +68,7 @@ impl Split {
         ensures { result ≡ first_from self half }
     {
         match self {
-            Split::Shannon => 0,
-            Split::PositiveDavio => 0,
+            Split::Shannon | Split::PositiveDavio => 0,
             Split::NegativeDavio => half,
         }
     }

@@ -1,30 +1,31 @@
 // Counting: what each part needs, and so how a table is split.
-ghost use Rattle.std.specs.Prelude.{◌≡◌, ◌^◌, ◌≤◌, length};
+ghost use Rattle.std.specs.Prelude.{◌≡◌};
+ghost use Rattle.expansion.specs.Tables.{HasInputs};
 ghost use Rattle.expansion.specs.Expansions.{needed, split_at};
 
 use crate::halves::fold;
-use crate::split::{Choice, Split, choose};
+use crate::split::{Choice, choose};
 
-// How a table of 2^k bytes is split, and how many products it needs. The table is given back byte for byte.
+// How a table of k inputs is split, and how many products it needs. The table is given back byte for byte.
+#[tactic(auto, using(crate::proofs::SplitLaws::needed_leaf))]
 pub(crate) fn survey(table: &mut [u8], k: u32) -> Choice
-    requires { (k ≤ 10) × (length table.old ≡ 2 ^ k) }
+    requires { HasInputs k table.old }
     ensures split { result.split ≡ split_at k table.old }
     ensures count { result.count ≡ needed k table.old }
     ensures table { table.new ≡ table.old }
 {
     if k == 0 {
-        let count = if table[0] == 1 { 1 } else { 0 };
         return Choice {
-            split: Split::Shannon,
-            count,
+            split: None,
+            count: u32::from(table[0] == 1),
         };
     }
-    let n = table.len();
-    let half = n / 2;
-    let low = survey(&mut table[0..half], k - 1);
-    let high = survey(&mut table[half..n], k - 1);
-    fold(table, half);
-    let sum = survey(&mut table[half..n], k - 1);
-    fold(table, half);
-    choose(low.count, high.count, sum.count)
+    let half = table.len() / 2;
+    let (lower, upper) = table.split_at_mut(half);
+    let low = survey(lower, k - 1).count;
+    let high = survey(upper, k - 1).count;
+    fold(upper, lower);
+    let sum = survey(upper, k - 1).count;
+    fold(upper, lower);
+    choose(low, high, sum)
 }

@@ -1,6 +1,8 @@
 // Small tables by hand, a table of ten inputs, and each refusal with table and list looked at afterwards.
 use crate::{ExpandRefusal, expand};
 use cube::{Cube, Form};
+use esop::refusal::Refusal;
+use std::array;
 use std::test::Fail;
 
 // The product of no input that drives output 5: what the places of a list hold beforehand.
@@ -49,12 +51,7 @@ fn tables_of_one_byte(rt: HostRuntime) -> Result<(), Fail> {
 // The parity of ten inputs: each input alone, complemented where that pairs up.
 #[test]
 fn parity_of_ten(rt: HostRuntime) -> Result<(), Fail> {
-    let mut table = [0u8; 1024];
-    let mut p = 0u32;
-    for b in table.iter_mut() {
-        *b = (p.count_ones() & 1) as u8;
-        p = p.wrapping_add(1);
-    }
+    let mut table: [u8; 1024] = array::from_fn(|p| (p.count_ones() % 2) as u8);
     let mut list = [filler()?; 960];
     assert_eq!(rt; expand(&mut table, 0, &mut list), Ok(10));
     assert_eq!(rt; list[10], filler()?);

@@ -11,16 +11,14 @@ use std::io::Read;
 pub fn fill<R: Read>(input: &mut R, memory: &mut [u8]) -> io::Result<usize>
     ensures { IfOk result (λ n. n ≤ length memory.old) }
 {
-    let mut have = 0;
-    for _ in 0..memory.len() {
-        if have >= memory.len() {
-            break;
-        }
-        let more = input.read(&mut memory[have..])?;
+    let len = memory.len();
+    let mut rest = memory;
+    while !rest.is_empty() {
+        let more = input.read(rest)?;
         if more == 0 {
             break;
         }
-        have += more;
+        rest = &mut rest[more..];
     }
-    Ok(have)
+    Ok(len - rest.len())
 }

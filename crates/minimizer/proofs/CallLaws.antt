@@ -1,6 +1,6 @@
 -- What the call answers, from what shrinking answered.
 -- Assumes nothing.
-use Rattle.std.proofs.Common.{◌≡◌, ℕ, ◌-◌, ◌<◌, ◌≤◌, min, List, length, take, Ok, Err, Result, sym, ap, ◌∙◌, subst, ⊎_elim, arith}
+use Rattle.std.proofs.Common.{◌≡◌, ℕ, ◌<◌, ◌≤◌, min, List, length, take, Ok, Err, Result, sym, ap, ◌∙◌, subst, ⊎_elim, arith}
 use Rattle.std.proofs.lemmas.List.{take_all}
 use Rattle.std.proofs.lemmas.Bool.{cases_lt}
 use Rattle.cube.specs.declared.cube.Cube.{Cube}
@@ -14,21 +14,21 @@ use Rattle.minimizer.specs.Minimizing.{shrinkable, minimized_of, minimized_answe
 use Rattle.minimizer.specs.Printing.{reading, printout_or, printable, printable_text}
 
 -- the first bytes of a memory, as far as it goes
-first_bytes : (m : List ℕ) (len end : ℕ) → end ≡ min len (length m) → take (end - 0) m ≡ take len m
+first_bytes : (m : List ℕ) (len end : ℕ) → end ≡ min len (length m) → take end m ≡ take len m
 first_bytes m len end is =
     ⊎_elim
-    (λ (l : len < length m). let e : end - 0 ≡ len = omega arith in ap (λ n. take n m) e)
+    (λ (l : len < length m). let e : end ≡ len = omega arith in ap (λ n. take n m) e)
     (λ (l : length m ≤ len).
-    let e : end - 0 ≡ length m = omega arith in
+    let e : end ≡ length m = omega arith in
     ap (λ n. take n m) e ∙ take_all (length m) m (omega arith) ∙ sym (take_all len m l))
     (cases_lt len (length m))
 
 -- the sheet that is shrunk in memory of these sizes
-same_sheet : (m : List ℕ) (len end p l w : ℕ) → end ≡ min len (length m) → p ≡ 960 → l ≡ 960 → w ≡ 962 → shrinkable p w (read l (take (end - 0) m)) ≡ shrinkable 960 962 (reading m len)
+same_sheet : (m : List ℕ) (len end p l w : ℕ) → end ≡ min len (length m) → p ≡ 960 → l ≡ 960 → w ≡ 962 → shrinkable p w (read l (take end m)) ≡ shrinkable 960 962 (reading m len)
 same_sheet m len end p l w is a b c = (λ i. shrinkable (a i) (c i) (read (b i) (first_bytes m len end is i)))
 
 pub call_refused : (m n : List ℕ) (len end p l w : ℕ) (why : MinimizeRefusal) → end ≡ min len (length m) → p ≡ 960 → l ≡ 960 → w ≡ 962
-    → Err why ≡ minimized_answer (shrinkable p w (read l (take (end - 0) m))) → n ≡ m
+    → Err why ≡ minimized_answer (shrinkable p w (read l (take end m))) → n ≡ m
     → Answered (printable_text m (reading m len)) m (Err (Minimize why)) n
 unfolding printable_text
 call_refused m n len end p l w why is a b c e same = by (shrinkable 960 962 (reading m len)) (e ∙ ap minimized_answer (same_sheet m len end p l w is a b c))
@@ -38,7 +38,7 @@ call_refused m n len end p l w why is a b c e same = by (shrinkable 960 962 (rea
     by (Err z) h = let q : why ≡ z = cc in record { answer = ap (λ y. Err (Minimize y)) q; memory = same; fits = tt }
 
 pub call_printed : (m n : List ℕ) (len end p l w : ℕ) (r : Minimized) (q : List Cube) (u : Result ℕ PrintRefusal) → end ≡ min len (length m) → p ≡ 960 → l ≡ 960 → w ≡ 962
-    → Ok r ≡ minimized_answer (shrinkable p w (read l (take (end - 0) m))) → FirstLeft q (shrinkable p w (read l (take (end - 0) m)))
+    → Ok r ≡ minimized_answer (shrinkable p w (read l (take end m))) → FirstLeft q (shrinkable p w (read l (take end m)))
     → Answered (printout_or m r.heading.inputs r.heading.outputs r.reduced r.refined (take r.count q)) m u n
     → Answered (printable_text m (reading m len)) m u n
 unfolding printable_text

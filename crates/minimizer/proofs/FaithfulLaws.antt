@@ -8,6 +8,8 @@ use Rattle.esop.specs.Criterion.{Test, reduce, refine}
 use Rattle.esop.specs.Entering.{entered_all}
 use Rattle.esop.specs.Running.{run}
 use Rattle.esop.specs.Strategies.{test_of}
+use Rattle.esop.specs.declared.ending.End.{End}
+use Rattle.esop.specs.declared.ending.End.TheVariants.{Spent, Finished}
 use Rattle.esop.specs.declared.strategy.Strategy.{Strategy}
 use Rattle.esop.specs.declared.strategy.Strategy.TheVariants.{Reduce, Refine}
 use Rattle.esop.specs.CriterionLaws.{strategies_strict}
@@ -48,32 +50,32 @@ decimal_feed =
     (λ n ds h front. each_append NoFeed ds ((48 + n % 10) ∷ []) front (ne_eqb (48 + n % 10) 10 (λ e. omega arith), tt))
 
 -- the line of a run is a comment
-word_text : Bool → List ℕ
-word_text true = codes " finished"
-word_text false = codes " spent"
+word_text : End → List ℕ
+word_text Finished = codes " finished"
+word_text Spent = codes " spent"
 
 body : RunSummary → List ℕ
-body r = start_text r.strategy ++ decimal r.tried ++ codes " kept " ++ decimal r.kept ++ word_text r.finished
+body r = start_text r.strategy ++ decimal r.tried ++ codes " kept " ++ decimal r.kept ++ word_text r.end
 
-ending_line : (b : Bool) → ending_text b ≡ line (word_text b)
+ending_line : (b : End) → ending_text b ≡ line (word_text b)
 unfolding word_text
-ending_line true = refl
-ending_line false = refl
+ending_line Finished = refl
+ending_line Spent = refl
 
 body_line : (r : RunSummary) → run_text r ≡ line (body r)
 unfolding run_text body
 body_line r =
     let front = start_text r.strategy ++ decimal r.tried ++ codes " kept " ++ decimal r.kept in
-    ap (λ t. front ++ t) (ending_line r.finished) ∙ sym (append_assoc front (word_text r.finished) (10 ∷ []))
+    ap (λ t. front ++ t) (ending_line r.end) ∙ sym (append_assoc front (word_text r.end) (10 ∷ []))
 
 start_feed : (y : Strategy) → Each NoFeed (start_text y)
 start_feed Reduce = (refl, (refl, (refl, (refl, (refl, (refl, (refl, (refl, (refl, (refl, (refl, (refl, (refl, (refl, (refl, tt)))))))))))))))
 start_feed Refine = (refl, (refl, (refl, (refl, (refl, (refl, (refl, (refl, (refl, (refl, (refl, (refl, (refl, (refl, (refl, tt)))))))))))))))
 
-word_feed : (b : Bool) → Each NoFeed (word_text b)
+word_feed : (b : End) → Each NoFeed (word_text b)
 unfolding word_text
-word_feed true = (refl, (refl, (refl, (refl, (refl, (refl, (refl, (refl, (refl, tt)))))))))
-word_feed false = (refl, (refl, (refl, (refl, (refl, (refl, tt))))))
+word_feed Finished = (refl, (refl, (refl, (refl, (refl, (refl, (refl, (refl, (refl, tt)))))))))
+word_feed Spent = (refl, (refl, (refl, (refl, (refl, (refl, tt))))))
 
 -- its numbers are those of a run with the program's budget
 pub record Small (r : RunSummary) : Type 0 where
@@ -86,15 +88,15 @@ body_feed r s =
     let t = s.tried in
     let k = s.kept in
     let a = start_text r.strategy in
-    each_append NoFeed (a ++ decimal r.tried ++ codes " kept " ++ decimal r.kept) (word_text r.finished)
+    each_append NoFeed (a ++ decimal r.tried ++ codes " kept " ++ decimal r.kept) (word_text r.end)
     (each_append NoFeed (a ++ decimal r.tried ++ codes " kept ") (decimal r.kept)
     (each_append NoFeed (a ++ decimal r.tried) (codes " kept ")
     (each_append NoFeed a (decimal r.tried) (start_feed r.strategy) (decimal_feed r.tried (omega arith)))
     (refl, (refl, (refl, (refl, (refl, (refl, tt)))))))
     (decimal_feed r.kept (omega arith)))
-    (word_feed r.finished)
+    (word_feed r.end)
 
-body_class : (y : Strategy) (t k : ℕ) (b : Bool) → class_of (body (record { strategy = y; tried = t; kept = k; finished = b })) ≡ skipped
+body_class : (y : Strategy) (t k : ℕ) (b : End) → class_of (body (record { strategy = y; tried = t; kept = k; end = b })) ≡ skipped
 unfolding body
 body_class Reduce t k b = refl
 body_class Refine t k b = refl
@@ -104,7 +106,7 @@ run_skipped : (n : ℕ) (r : RunSummary) (rest : List ℕ) → Small r → judge
 run_skipped n r rest s =
     ap (λ t. judged 960 Inputs n (pieces (t ++ rest))) (body_line r)
     ∙ judged_line 960 Inputs n (body r) rest (to Inputs) (body_feed r s)
-    (ap (λ x. step 960 Inputs x) (body_class r.strategy r.tried r.kept r.finished))
+    (ap (λ x. step 960 Inputs x) (body_class r.strategy r.tried r.kept r.end))
 
 run_short : (r : RunSummary) → Small r → length (run_text r) ≤ 45
 run_short r s =
@@ -112,13 +114,13 @@ run_short r s =
     let k = s.kept in
     let a = length-decimal-le 7 r.tried (lit< tt) (omega arith) (omega arith) in
     let b = length-decimal-le 7 r.kept (lit< tt) (omega arith) (omega arith) in
-    let e = ending_short r.finished in
+    let e = ending_short r.end in
     let l = run_length r in
     omega arith
   where
-    ending_short : (b : Bool) → length (ending_text b) ≤ 10
-    ending_short true = omega arith
-    ending_short false = omega arith
+    ending_short : (b : End) → length (ending_text b) ≤ 10
+    ending_short Finished = omega arith
+    ending_short Spent = omega arith
 
 -- the counts of a run
 outcome_small : (y : Strategy) (test : Test) (c : List Cube) → Small (summary_of y (run cubes test 1000000 c))

@@ -1,17 +1,17 @@
 -- Loading a text.
 -- Assumes nothing.
-use Rattle.std.proofs.Common.{◌≡◌, ℕ, ◌-◌, ◌≤◌, true, false, leb, List, length, take, drop, Ok, Err, Result, sym, refl, ap, ◌∙◌, subst, ⊎_elim, arith}
+use Rattle.std.proofs.Common.{◌≡◌, ℕ, ◌≤◌, true, false, leb, List, length, take, drop, Ok, Err, Result, sym, refl, ap, ◌∙◌, subst, ⊎_elim, arith}
 use Rattle.std.proofs.lemmas.List.{take_at}
 use Rattle.std.proofs.lemmas.Bool.{cond-true, cond-false, cases_Bool, leb-true}
 use Rattle.esop.specs.History.{admitted}
 use Rattle.cube.specs.Positions.{cubes}
 use Rattle.cube.specs.declared.cube.Cube.{Cube}
-use Rattle.cover.specs.Holding.{used, held_of}
+use Rattle.cover.specs.Holding.{used, held_of, SameLoan}
 use Rattle.cover.specs.declared.memory.Cover.{Cover}
 use Rattle.reader.specs.Accepted.{Accepted, Spelled}
 use Rattle.reader.specs.Back.{Spells}
 use Rattle.reader.specs.Reading.{Sheet, read, stored}
-use Rattle.reader.specs.declared.state.Heading.{Heading}
+use Rattle.sheet.specs.declared.heading.Heading.{Heading}
 use Rattle.reader.specs.declared.state.Refused.{Refused}
 use Rattle.minimizer.specs.Loading.{loadable, heading_or, loaded_held, Loads}
 
@@ -58,20 +58,18 @@ rows_stored room n text l k h a sp e =
     }
 
 pub loads_by : {N : ℕ} (room n : ℕ) (text : List ℕ) (c d : Cover Cube N) (l k : List Cube) (h : Heading) (m : ℕ) → Ok h ≡ heading_or (loadable room (read n text)) → Spells n text
-    → k ≡ stored l (read n text) → held_of d ≡ (admitted cubes (held_of c) (take (h.rows - 0) k)).held → m ≡ length (used d) → length d.places.now ≡ length c.places.now
-    → d.places.ghost_name ≡ c.places.ghost_name → Loads (loadable room (read n text)) c l (Ok (record { heading = h; count = m })) d k
-loads_by room n text c d l k h m q sp e held count size lender =
+    → k ≡ stored l (read n text) → held_of d ≡ (admitted cubes (held_of c) (take h.rows k)).held → m ≡ length (used d) → SameLoan c d
+    → Loads (loadable room (read n text)) c l (Ok (record { heading = h; count = m })) d k
+loads_by room n text c d l k h m q sp e held count loan =
     let a = admitted_is room (read n text) h q in
     let s = a.sheet in
     let st = rows_stored room n text l k h a sp e in
-    let z : h.rows - 0 ≡ h.rows = omega arith in
-    let after : held_of d ≡ loaded_held (held_of c) (Ok s) = held ∙ ap (λ ps. (admitted cubes (held_of c) ps).held) (ap (λ j. take j k) z ∙ st.rows) in
+    let after : held_of d ≡ loaded_held (held_of c) (Ok s) = held ∙ ap (λ ps. (admitted cubes (held_of c) ps).held) st.rows in
     let long : m ≡ length (loaded_held (held_of c) (Ok s)).used = count ∙ ap (λ x. length x.used) after in
     subst (λ x. Loads x c l (Ok (record { heading = h; count = m })) d k) (sym a.loads)
     (record {
       answer = λ i. Ok (record { heading = a.heading i; count = long i });
       held = after;
       list = e ∙ ap (stored l) a.is;
-      size = size;
-      lender = lender;
+      loan = loan;
     })

@@ -5,7 +5,8 @@ use Rattle.std.specs.List.{slice_get, AllByRecursion}
 use Rattle.std.proofs.lemmas.List.{take_at, append-nil}
 use Rattle.std.proofs.lemmas.Bool.{cond-true, le-leb}
 use Rattle.esop.specs.Entering.{entered_all, spared_all}
-use Rattle.esop.specs.History.{Answer, counted, Request, enter_list, run_by, Held, Reply, accept, reported, ran_by, served, Turn, opened, turns, left, memory, accepted, Sound, Kept}
+use Rattle.esop.specs.History.{Answer, counted, ran, Request, enter_list, run_by, Held, Reply, accept, reported, ran_by, served, Turn, opened, turns, left, memory, accepted, Sound, Kept}
+use Rattle.esop.specs.Running.{trial_rows}
 use Rattle.esop.specs.Strategies.{test_of}
 use Rattle.esop.specs.declared.strategy.Strategy.{Strategy}
 use Rattle.esop.specs.declared.strategy.Strategy.TheVariants.{Reduce, Refine}
@@ -16,7 +17,7 @@ use Rattle.cover.specs.declared.serve.Answer.TheVariants as code
 use Rattle.cover.specs.declared.serve.Answer.{Answer as Code}
 use Rattle.cover.specs.declared.serve.Request.{Request as Request'}
 use Rattle.sheet.specs.declared.summary.RunSummary.{RunSummary}
-use Rattle.minimizer.specs.Shrinking.{asks, reduced_run, refined_run, shrunk, summary_from, requests, log, places_left, Roomy, Logged, Shrinks}
+use Rattle.minimizer.specs.Shrinking.{asks, reduced_run, refined_run, shrunk, Tells, requests, log, places_left, Roomy, Logged, Shrinks}
 
 -- one turn, by its reply
 turns_one : (h : Held Cube) (r : Request Cube Strategy) (rs : List (Request Cube Strategy)) (p : Reply Cube) → served cubes test_of h r ≡ p
@@ -104,11 +105,11 @@ three_answers (a ∷ b ∷ []) x y z d e = absurd (let q : ◌≡◌ {A = ℕ} 0
 three_answers (a ∷ b ∷ c ∷ xs) x y z d e = (cc, cc)
 
 -- where neither run tried a group, no group was tried for any of the three answers
-no_group : (y : Strategy) (a : Code) → call_said a ≡ running → (summary_from y (said a)).tried ≡ 0 → Untouched a
-no_group y (code.Entered r) c e = absurd (let q : ◌≡◌ {A = ℕ} 0 1 = cc in omega arith)
-no_group y (code.Linked r) c e = absurd (let q : ◌≡◌ {A = ℕ} 0 1 = cc in omega arith)
-no_group y (code.Ran (Ok r)) c e = e
-no_group y (code.Ran (Err r)) c e = tt
+no_group : (y : Strategy) (a : Code) (r : RunSummary) → call_said a ≡ running → Tells y (said a) r → r.tried ≡ 0 → Untouched a
+no_group y (code.Entered x) r c h e = absurd (let q : ◌≡◌ {A = ℕ} 0 1 = cc in omega arith)
+no_group y (code.Linked x) r c h e = absurd (let q : ◌≡◌ {A = ℕ} 0 1 = cc in omega arith)
+no_group y (code.Ran (Ok x)) r c h e = ap (λ t. t.tried) (sym (h _ _ refl)) ∙ e
+no_group y (code.Ran (Err x)) r c h e = tt
 
 entry_untouched : (a : Code) → call_said a ≡ entry → Untouched a
 entry_untouched (code.Entered r) c = tt
@@ -116,7 +117,7 @@ entry_untouched (code.Linked r) c = absurd (let q : ◌≡◌ {A = ℕ} 0 1 = cc
 entry_untouched (code.Ran r) c = absurd (let q : ◌≡◌ {A = ℕ} 0 1 = cc in omega arith)
 
 pub untouched_by : (xs : List Code) (d : Code) (r s : RunSummary) → map call_said (take 3 xs) ≡ entry ∷ running ∷ running ∷ []
-    → r ≡ summary_from Reduce (said (get_or xs 1 d)) → s ≡ summary_from Refine (said (get_or xs 2 d)) → r.tried ≡ 0 → s.tried ≡ 0 → AllByRecursion Untouched (take 3 xs)
+    → Tells Reduce (said (get_or xs 1 d)) r → Tells Refine (said (get_or xs 2 d)) s → r.tried ≡ 0 → s.tried ≡ 0 → AllByRecursion Untouched (take 3 xs)
 untouched_by [] d r s c e f p q = absurd (let z : ◌≡◌ {A = ℕ} 0 1 = cc in omega arith)
 untouched_by (x ∷ []) d r s c e f p q = absurd (let z : ◌≡◌ {A = ℕ} 0 1 = cc in omega arith)
 untouched_by (x ∷ y ∷ []) d r s c e f p q = absurd (let z : ◌≡◌ {A = ℕ} 0 1 = cc in omega arith)
@@ -124,11 +125,11 @@ untouched_by (x ∷ y ∷ z ∷ xs) d r s c e f p q =
     let a : call_said x ≡ entry = cc in
     let b : call_said y ≡ running = cc in
     let g : call_said z ≡ running = cc in
-    (entry_untouched x a, (no_group Reduce y b (ap (λ t. t.tried) (sym e) ∙ p), (no_group Refine z g (ap (λ t. t.tried) (sym f) ∙ q), tt)))
+    (entry_untouched x a, (no_group Reduce y r b e p, (no_group Refine z s g f q, tt)))
 
 -- the same for the requests of the code
 pub three_calls : (xs : List Code) (rs : List (Request' Cube Strategy)) (n : ℕ) → rs ≡ asks n → map call_said (take (length rs) xs) ≡ map call_asked rs
-    → (r s : RunSummary) (d : Code) → r ≡ summary_from Reduce (said (get_or xs 1 d)) → s ≡ summary_from Refine (said (get_or xs 2 d)) → r.tried ≡ 0 → s.tried ≡ 0
+    → (r s : RunSummary) (d : Code) → Tells Reduce (said (get_or xs 1 d)) r → Tells Refine (said (get_or xs 2 d)) s → r.tried ≡ 0 → s.tried ≡ 0
     → AllByRecursion Untouched (take (length rs) xs)
 three_calls xs rs n is calls r s d e f p q =
     let three = ap length is in
@@ -139,9 +140,21 @@ three_calls xs rs n is calls r s d e f p q =
 asked_rows : (list : List Cube) (n w : ℕ) → map (asked list w) (asks n) ≡ requests (take n list) w
 asked_rows list n w = let z : n - 0 ≡ n = omega arith in ap (λ k. requests (take k list) w) z
 
+-- The second and the third answer are of the runs of Reduce and of Refine.
+pub run_answers : (places list : List Cube) (n w : ℕ) (answers after : List Code) (count : ℕ) (left-places : List Cube) (d : Code) (rs : List (Request' Cube Strategy))
+    → Roomy places (take n list) w → rs ≡ asks n → Serves cubes test_of places list rs w answers count left-places after
+    → (said (get_or after 1 d) ≡ ran (reduced_run (take n list)).ending (trial_rows cubes (reduced_run (take n list)).trials))
+    × (said (get_or after 2 d) ≡ ran (refined_run (take n list)).ending (trial_rows cubes (refined_run (take n list)).trials))
+unfolding log
+run_answers places list n w answers after count left-places d rs fit is g =
+    let h = subst (λ x. Serves cubes test_of places list x w answers count left-places after) is g in
+    let same = ap (turns cubes test_of (opened places)) (asked_rows list n w) in
+    let l = logged places (take n list) w fit (subst (Kept cubes test_of) same h.kept) in
+    three_answers after _ _ _ d (h.answered ∙ ap (map (λ t. t.answer)) same ∙ l.answers)
+
 pub shrinks_by : (places list : List Cube) (n w : ℕ) (answers after : List Code) (count : ℕ) (left-places : List Cube) (r s : RunSummary) (d : Code) (rs : List (Request' Cube Strategy))
     → Roomy places (take n list) w → rs ≡ asks n → Serves cubes test_of places list rs w answers count left-places after
-    → r ≡ summary_from Reduce (said (get_or after 1 d)) → s ≡ summary_from Refine (said (get_or after 2 d))
+    → Tells Reduce (said (get_or after 1 d)) r → Tells Refine (said (get_or after 2 d)) s
     → Shrinks places (take n list) w (record { count = count; reduced = r; refined = s }) left-places
 unfolding log
 shrinks_by places list n w answers after count left-places r s d rs fit is g e f =
@@ -150,7 +163,7 @@ shrinks_by places list n w answers after count left-places r s d rs fit is g e f
     let same = ap (turns cubes test_of (opened places)) (asked_rows list n w) in
     let promise = subst (Kept cubes test_of) same h.kept in
     let l = logged places rows w fit promise in
-    let a = three_answers after _ _ _ d (h.answered ∙ ap (map (λ t. t.answer)) same ∙ l.answers) in
+    let a = run_answers places list n w answers after count left-places d rs fit is g in
     let in_use = ap (λ ts. (left (opened places) ts).used) same ∙ l.left_in_use in
     let held = ap (λ ts. left (opened places) ts) same in
     let after_is : left-places ≡ places_left places rows w = h.held ∙ ap memory held in
@@ -159,8 +172,8 @@ shrinks_by places list n w answers after count left-places r s d rs fit is g e f
     let parts : left-places ≡ shrunk rows ++ free = after_is ∙ ap (λ u. u ++ free) used-is in
     record {
       count = h.count ∙ ap length in_use;
-      reduced = e ∙ ap (summary_from Reduce) a.0;
-      refined = f ∙ ap (summary_from Refine) a.1;
+      reduced = e _ _ a.0;
+      refined = f _ _ a.1;
       places = after_is;
       products = ap (take (length (shrunk rows))) parts ∙ take_at (shrunk rows) free (length (shrunk rows)) refl;
       within = let p = ap length parts in let q = length-append (shrunk rows) free in omega arith;

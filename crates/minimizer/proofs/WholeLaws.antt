@@ -5,7 +5,7 @@ use Rattle.std.proofs.lemmas.Bool.{cond-true, cond-false, cases_Bool, leb-true}
 use Rattle.cube.specs.declared.cube.Cube.{Cube}
 use Rattle.reader.specs.Back.{Spells}
 use Rattle.reader.specs.Reading.{Sheet, read, stored}
-use Rattle.reader.specs.declared.state.Heading.{Heading}
+use Rattle.sheet.specs.declared.heading.Heading.{Heading}
 use Rattle.minimizer.specs.declared.refusal.LoadRefusal.{LoadRefusal}
 use Rattle.minimizer.specs.declared.shrink.Shrunk.{Shrunk}
 use Rattle.minimizer.specs.Loading.{loadable, heading_or}

@@ -3,10 +3,10 @@ use Rattle.std.specs.Prelude.{◌≡◌, ℕ, cond, List, length, Ok, Err, Resul
 use Rattle.esop.specs.History.{Held, admitted}
 use Rattle.cube.specs.Positions.{cubes}
 use Rattle.cube.specs.declared.cube.Cube.{Cube}
-use Rattle.cover.specs.Holding.{held_of, spare}
+use Rattle.cover.specs.Holding.{held_of, spare, SameLoan}
 use Rattle.cover.specs.declared.memory.Cover.{Cover}
 use Rattle.reader.specs.Reading.{Sheet, stored}
-use Rattle.reader.specs.declared.state.Heading.{Heading}
+use Rattle.sheet.specs.declared.heading.Heading.{Heading}
 use Rattle.reader.specs.declared.state.Refused.{Refused}
 use Rattle.minimizer.specs.declared.refusal.LoadRefusal.{LoadRefusal}
 use Rattle.minimizer.specs.declared.refusal.LoadRefusal.TheVariants.{Unread, NoPlace}
@@ -40,5 +40,4 @@ pub record Loads {N : ℕ} (x : Result Sheet LoadRefusal) (c : Cover Cube N) (l 
   pub answer : r ≡ loaded_answer (held_of c) x
   pub held : held_of d ≡ loaded_held (held_of c) x
   pub list : k ≡ stored_or l x
-  pub size : length d.places.now ≡ length c.places.now
-  pub lender : d.places.ghost_name ≡ c.places.ghost_name
+  pub loan : SameLoan c d

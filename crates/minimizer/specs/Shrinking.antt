@@ -1,9 +1,9 @@
 -- Shrinking a cover: the rows of a sheet are entered into an empty cover, over which Reduce runs and then Refine.
-use Rattle.std.specs.Prelude.{◌≡◌, ℕ, ◌+◌, ◌≤◌, min, Bool, true, false, List, [], ◌∷◌, map, length, take}
+use Rattle.std.specs.Prelude.{◌≡◌, ℕ, ◌+◌, ◌≤◌, min, List, [], ◌∷◌, map, length, take}
 use Rattle.esop.specs.Criterion.{reduce, refine}
 use Rattle.esop.specs.Entering.{entered_all}
-use Rattle.esop.specs.Running.{Ending, spent, finished, Rows, Outcome, run, trial_rows, all_tried, all_kept}
-use Rattle.esop.specs.History.{Answer, counted, refused, ran, Request, enter_list, run_by, Turn, opened, turns, memory, left, Sound, Kept}
+use Rattle.esop.specs.Running.{Rows, Outcome, run, trial_rows, all_tried, all_kept}
+use Rattle.esop.specs.History.{Answer, counted, ran, Request, enter_list, run_by, Turn, opened, turns, memory, left, Sound, Kept}
 use Rattle.esop.specs.Strategies.{test_of}
 use Rattle.esop.specs.declared.strategy.Strategy.{Strategy}
 use Rattle.esop.specs.declared.strategy.Strategy.TheVariants.{Reduce, Refine}
@@ -13,6 +13,7 @@ use Rattle.cover.specs.declared.serve.Request.{Request as Code}
 use Rattle.cover.specs.declared.serve.Request.TheVariants as code
 use Rattle.sheet.specs.declared.summary.RunSummary.{RunSummary}
 use Rattle.minimizer.specs.declared.shrink.Shrunk.{Shrunk}
+use Rattle.esop.specs.declared.ending.End.{End}
 
 -- the run of Reduce over the cover of the rows, and the run of Refine over what it leaves
 unfoldable pub reduced_run : List Cube → Outcome Cube
@@ -25,13 +26,9 @@ refined_run rows = run cubes refine 1000000 (reduced_run rows).cover
 abbrev pub shrunk : List Cube → List Cube
 shrunk rows = (refined_run rows).cover
 
-abbrev pub has_finished : Ending → Bool
-has_finished spent = false
-has_finished finished = true
-
 -- a run in few words: its counts are the sums over the rows of its record
-abbrev pub summary_by : Strategy → Ending → Rows → RunSummary
-summary_by y e s = record { strategy = y; tried = all_tried s; kept = all_kept s; finished = has_finished e }
+abbrev pub summary_by : Strategy → End → Rows → RunSummary
+summary_by y e s = record { strategy = y; tried = all_tried s; kept = all_kept s; end = e }
 
 abbrev pub summary_of : Strategy → Outcome Cube → RunSummary
 summary_of y r = summary_by y r.ending (trial_rows cubes r.trials)
@@ -42,11 +39,13 @@ reduced_summary rows = summary_of Reduce (reduced_run rows)
 abbrev pub refined_summary : List Cube → RunSummary
 refined_summary rows = summary_of Refine (refined_run rows)
 
--- the same from an answer; one that is of no run has nothing to tell
-abbrev pub summary_from : Strategy → Answer → RunSummary
-summary_from y (counted n) = record { strategy = y; tried = 0; kept = 0; finished = false }
-summary_from y (refused n) = record { strategy = y; tried = 0; kept = 0; finished = false }
-summary_from y (ran e s) = summary_by y e s
+-- the answer is of a run
+abbrev pub OfRun : Answer → Type 0
+OfRun a = (e : End) × (s : Rows) × (a ≡ ran e s)
+
+-- r tells of the run that the answer is of
+abbrev pub Tells : Strategy → Answer → RunSummary → Type 0
+Tells y a r = (e : End) (s : Rows) → a ≡ ran e s → r ≡ summary_by y e s
 
 -- the load and the two runs as the requests of a history, with so many places of work memory
 abbrev pub requests : List Cube → ℕ → List (Request Cube Strategy)

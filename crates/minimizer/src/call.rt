@@ -8,15 +8,7 @@ use crate::refusal::PrintRefusal;
 use crate::report::Minimized;
 use crate::whole::minimize;
 use cube::Cube;
-use sheet::write_refusal;
-
-// The first products of the places.
-fn first(places: &[Cube], count: usize) -> &[Cube]
-    requires { count ≤ length places.now }
-    ensures { result.now ≡ take count places.now }
-{
-    &places[0..count]
-}
+use sheet::write_answer;
 
 // Writes the printout of a sheet that was shrunk, whose products are the first of the places.
 fn put_minimized(
@@ -28,17 +20,14 @@ fn put_minimized(
     ensures { Answered (printout_or text.old minimized.heading.inputs minimized.heading.outputs minimized.reduced minimized.refined (take minimized.count places.now)) text.old result text.new }
 {
     let heading = minimized.heading;
-    match write_printout(
+    Ok(write_printout(
         text,
         heading.inputs,
         heading.outputs,
         minimized.reduced,
         minimized.refined,
-        first(places, minimized.count),
-    ) {
-        Ok(len) => Ok(len),
-        Err(why) => Err(PrintRefusal::Write(why)),
-    }
+        &places[..minimized.count],
+    )?)
 }
 
 // Shrinks the sheet of the first `len` bytes, and writes its printout over them. It carries the promise of what is
@@ -51,10 +40,8 @@ fn print_sheet(text: &mut [u8], len: usize) -> Result<usize, PrintRefusal>
     let mut list = [Cube::tautology(); 960];
     let mut work = [Cube::tautology(); 962];
     let end = len.min(text.len());
-    match minimize(&text[0..end], &mut places, &mut list, &mut work) {
-        Err(why) => Err(PrintRefusal::Minimize(why)),
-        Ok(minimized) => put_minimized(text, minimized, &places),
-    }
+    let minimized = minimize(&text[..end], &mut places, &mut list, &mut work)?;
+    put_minimized(text, minimized, &places)
 }
 
 // Takes the first `len` bytes of the memory for the text of a sheet, and writes what is printed for it to the memory's
@@ -65,8 +52,6 @@ pub fn print_minimized(text: &mut [u8], len: usize) -> Option<usize>
     ensures text { text.new ≡ kept_within text.old (printed text.old len) }
     ensures promised { Promised text.old (reading text.old len) (printed text.old len) }
 {
-    match print_sheet(text, len) {
-        Ok(len) => Some(len),
-        Err(why) => write_refusal(text, why.number()),
-    }
+    let answer = print_sheet(text, len);
+    write_answer(text, answer)
 }

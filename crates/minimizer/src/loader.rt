@@ -15,15 +15,11 @@ use reader::{Heading, judge_sheet, read_sheet};
 pub(crate) fn admit(text: &[u8], places: usize, room: usize) -> Result<Heading, LoadRefusal>
     ensures { result ≡ heading_or (loadable room (read places text.now)) }
 {
-    match judge_sheet(text, places) {
-        Err(_) => Err(LoadRefusal::Unread),
-        Ok(heading) => {
-            if heading.rows as usize > room {
-                return Err(LoadRefusal::NoPlace);
-            }
-            Ok(heading)
-        }
+    let heading = judge_sheet(text, places)?;
+    if heading.rows as usize > room {
+        return Err(LoadRefusal::NoPlace);
     }
+    Ok(heading)
 }
 
 // Stores the rows of a text that is admitted, and enters them.
@@ -36,28 +32,11 @@ fn enter_rows(
     requires { Ok heading ≡ heading_or (loadable (spare cover.old) (read (length list.old) text.now)) }
     ensures { Loads (loadable (spare cover.old) (read (length list.old) text.now)) cover.old list.old (Ok result) cover.new list.new }
 {
-    let _ = read_sheet(text, list);
-    let _ = cover.enter_all(&list[0..heading.rows as usize]);
+    read_sheet(text, list).unwrap();
+    cover.enter_all(&list[..heading.rows as usize]).unwrap();
     Loaded {
         heading,
         count: cover.products().len(),
-    }
-}
-
-// Loads a text, for which the cover has `room` free places.
-fn load_within(
-    text: &[u8],
-    list: &mut [Cube],
-    cover: &mut Cover<'_, Cube, MOST>,
-    room: usize,
-) -> Result<Loaded, LoadRefusal>
-    requires { room ≡ spare cover.old }
-    ensures loads { Loads (loadable (spare cover.old) (read (length list.old) text.now)) cover.old list.old result cover.new list.new }
-    ensures same { is_ok result ≡ false → cover.new ≡ cover.old }
-{
-    match admit(text, list.len(), room) {
-        Err(why) => Err(why),
-        Ok(heading) => Ok(enter_rows(text, list, cover, heading)),
     }
 }
 
@@ -71,6 +50,6 @@ pub fn load(
     ensures loads { Loads (loadable (spare cover.old) (read (length list.old) text.now)) cover.old list.old result cover.new list.new }
     ensures same { is_ok result ≡ false → cover.new ≡ cover.old }
 {
-    let room = cover.room();
-    load_within(text, list, cover, room)
+    let heading = admit(text, list.len(), cover.room())?;
+    Ok(enter_rows(text, list, cover, heading))
 }

@@ -12,10 +12,8 @@ fn put_runs(memory: &mut [u8], reduced: RunSummary, refined: RunSummary)
     requires { length (run_text reduced) + length (run_text refined) ≤ length memory.old }
     ensures { memory.new ≡ written memory.old 0 (runs_text reduced refined) }
 {
-    let Some(second) = write_run(memory, 0, reduced) else {
-        unreachable()
-    };
-    let _ = write_run(memory, second, refined);
+    let second = write_run(memory, 0, reduced).unwrap();
+    write_run(memory, second, refined).unwrap();
 }
 
 // Writes the printout: the sheet past the first `at` bytes, and then the lines of the runs before it. Where the memory
@@ -33,13 +31,9 @@ fn put_printout(
     ensures answer { result ≡ printout_answer memory.old inputs outputs reduced refined products.now }
     ensures text { memory.new ≡ printout_memory memory.old inputs outputs reduced refined products.now }
 {
-    match write_sheet(&mut memory[at..], inputs, outputs, products) {
-        Err(why) => Err(why),
-        Ok(len) => {
-            put_runs(memory, reduced, refined);
-            Ok(at + len)
-        }
-    }
+    let len = write_sheet(&mut memory[at..], inputs, outputs, products)?;
+    put_runs(memory, reduced, refined);
+    Ok(at + len)
 }
 
 // Writes the lines of two runs and the sheet of the products that they left from the start of the memory, and answers

@@ -1,7 +1,12 @@
 // Why a text is not loaded, not shrunk, or not printed.
 ghost use Rattle.std.specs.Prelude.{◌≡◌};
 ghost use Rattle.minimizer.specs.Refusals.{load_number, minimize_number, print_number};
+ghost use Rattle.minimizer.specs.declared.refusal.LoadRefusal.TheVariants as load;
+ghost use Rattle.minimizer.specs.declared.refusal.MinimizeRefusal.TheVariants as minimize;
+ghost use Rattle.minimizer.specs.declared.refusal.PrintRefusal.TheVariants as print;
 
+use esop::refusal::Refusal;
+use reader::Refused;
 use sheet::WriteRefusal;
 
 #[derive(Clone, Copy, PartialEq, Eq, Debug)]
@@ -12,11 +17,10 @@ pub enum LoadRefusal {
     NoPlace,
 }
 
-impl LoadRefusal {
-    // The number under which it is reported.
-    pub fn number(self) -> u8
-        ensures { result ≡ load_number self }
-    {
+impl Refusal for LoadRefusal {
+    ghost number = { load_number };
+
+    fn number(self) -> u8 {
         match self {
             LoadRefusal::Unread => 26,
             LoadRefusal::NoPlace => 1,
@@ -32,11 +36,10 @@ pub enum MinimizeRefusal {
     NoWork,
 }
 
-impl MinimizeRefusal {
-    // The number under which it is reported.
-    pub fn number(self) -> u8
-        ensures { result ≡ minimize_number self }
-    {
+impl Refusal for MinimizeRefusal {
+    ghost number = { minimize_number };
+
+    fn number(self) -> u8 {
         match self {
             MinimizeRefusal::Load(why) => why.number(),
             MinimizeRefusal::NoWork => 6,
@@ -52,14 +55,45 @@ pub enum PrintRefusal {
     Write(WriteRefusal),
 }
 
-impl PrintRefusal {
-    // The number under which it is reported.
-    pub fn number(self) -> u8
-        ensures { result ≡ print_number self }
-    {
+impl Refusal for PrintRefusal {
+    ghost number = { print_number };
+
+    fn number(self) -> u8 {
         match self {
             PrintRefusal::Minimize(why) => why.number(),
             PrintRefusal::Write(why) => why.number(),
         }
+    }
+}
+
+impl From<Refused> for LoadRefusal {
+    ghost from_gives = { λ _ e. e ≡ load.Unread };
+
+    fn from(_refused: Refused) -> Self {
+        Self::Unread
+    }
+}
+
+impl From<LoadRefusal> for MinimizeRefusal {
+    ghost from_gives = { λ why e. e ≡ minimize.Load why };
+
+    fn from(why: LoadRefusal) -> Self {
+        Self::Load(why)
+    }
+}
+
+impl From<MinimizeRefusal> for PrintRefusal {
+    ghost from_gives = { λ why e. e ≡ print.Minimize why };
+
+    fn from(why: MinimizeRefusal) -> Self {
+        Self::Minimize(why)
+    }
+}
+
+impl From<WriteRefusal> for PrintRefusal {
+    ghost from_gives = { λ why e. e ≡ print.Write why };
+
+    fn from(why: WriteRefusal) -> Self {
+        Self::Write(why)
     }
 }

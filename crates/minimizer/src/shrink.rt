@@ -1,10 +1,8 @@
 // Shrinking: rows are entered into an empty cover, over which Reduce runs and then Refine.
 ghost use Rattle.std.specs.Prelude.{◌≡◌, ◌≤◌, length, take};
 ghost use Rattle.cover.specs.Serving.{said};
-ghost use Rattle.minimizer.specs.Shrinking.{asks, has_finished, summary_from, Roomy, Shrinks};
-ghost use Rattle.cover.specs.Recording.{ending_of};
+ghost use Rattle.minimizer.specs.Shrinking.{asks, OfRun, Tells, Roomy, Shrinks};
 
-use cover::run::End;
 use cover::serve::{Answer, Request, serve};
 use cube::Cube;
 use esop::strategy::Strategy;
@@ -21,32 +19,19 @@ pub struct Shrunk {
     pub(crate) refined: RunSummary,
 }
 
-fn has_finished(end: End) -> bool
-    ensures { result ≡ has_finished (ending_of end) }
-{
-    match end {
-        End::Spent => false,
-        End::Finished => true,
-    }
-}
-
 // A run in few words, from its answer.
 fn summary(strategy: Strategy, answer: &Answer) -> RunSummary
-    ensures { result ≡ summary_from strategy (said answer.now) }
+    requires { OfRun (said answer.now) }
+    ensures { Tells strategy (said answer.now) result }
 {
-    match answer {
-        Answer::Ran(Ok((end, record))) => RunSummary {
-            strategy,
-            tried: record.tried(),
-            kept: record.kept(),
-            finished: has_finished(*end),
-        },
-        _ => RunSummary {
-            strategy,
-            tried: 0,
-            kept: 0,
-            finished: false,
-        },
+    let Answer::Ran(Ok((end, record))) = answer else {
+        unreachable()
+    };
+    RunSummary {
+        strategy,
+        tried: record.tried(),
+        kept: record.kept(),
+        end: *end,
     }
 }
 
@@ -76,9 +61,7 @@ pub(crate) fn shrink(places: &mut [Cube], list: &[Cube], rows: usize, work: &mut
 {
     let requests = requests(rows);
     let mut answers = [Answer::Entered(Ok(0)); 3];
-    let Ok(count) = serve(places, list, &requests, work, &mut answers) else {
-        unreachable()
-    };
+    let count = serve(places, list, &requests, work, &mut answers).unwrap();
     Shrunk {
         count,
         reduced: summary(Strategy::Reduce, &answers[1]),

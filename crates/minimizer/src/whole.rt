@@ -22,15 +22,11 @@ fn consider(
 ) -> Result<Heading, MinimizeRefusal>
     ensures { result ≡ heading_or (workable work (loadable room (read places text.now))) }
 {
-    match admit(text, places, room) {
-        Err(why) => Err(MinimizeRefusal::Load(why)),
-        Ok(heading) => {
-            if heading.rows as usize + 2 > work {
-                return Err(MinimizeRefusal::NoWork);
-            }
-            Ok(heading)
-        }
+    let heading = admit(text, places, room)?;
+    if heading.rows as usize + 2 > work {
+        return Err(MinimizeRefusal::NoWork);
     }
+    Ok(heading)
 }
 
 // Stores the rows of a text that was found right, and shrinks their cover.
@@ -45,7 +41,7 @@ fn shrink_rows(
     ensures minimizes { Minimizes (shrinkable (length places.old) (length work.old) (read (length list.old) text.now)) places.old list.old (length work.old) (Ok result) places.new list.new }
     ensures work { Untried (Ok result) → work.new ≡ work.old }
 {
-    let _ = read_sheet(text, list);
+    read_sheet(text, list).unwrap();
     let shrunk = shrink(places, list, heading.rows as usize, work);
     Minimized {
         heading,
@@ -55,24 +51,7 @@ fn shrink_rows(
     }
 }
 
-// Shrinks the sheet of a text, for whose cover there are `room` places.
-fn minimize_within(
-    text: &[u8],
-    places: &mut [Cube],
-    list: &mut [Cube],
-    work: &mut [Cube],
-    room: usize,
-) -> Result<Minimized, MinimizeRefusal>
-    requires { room ≡ min 960 (length places.old) }
-    ensures minimizes { Minimizes (shrinkable (length places.old) (length work.old) (read (length list.old) text.now)) places.old list.old (length work.old) result places.new list.new }
-    ensures work { Untried result → work.new ≡ work.old }
-{
-    match consider(text, list.len(), room, work.len()) {
-        Err(why) => Err(why),
-        Ok(heading) => Ok(shrink_rows(text, places, list, work, heading)),
-    }
-}
-
+// The memories are lent each by itself, as their callers have them.
 // Reads a text into the list, enters its rows into a cover on the places, and runs Reduce and then Refine over it. It
 // answers the numbers of the heading, the count of the products that are left, which are the first of the places, and
 // the two runs. All is asked before anything is stored: a refusal leaves all memory as it was.
@@ -85,6 +64,6 @@ pub fn minimize(
     ensures minimizes { Minimizes (shrinkable (length places.old) (length work.old) (read (length list.old) text.now)) places.old list.old (length work.old) result places.new list.new }
     ensures work { Untried result → work.new ≡ work.old }
 {
-    let room = places.len().min(MOST);
-    minimize_within(text, places, list, work, room)
+    let heading = consider(text, list.len(), places.len().min(MOST), work.len())?;
+    Ok(shrink_rows(text, places, list, work, heading))
 }

@@ -3,6 +3,7 @@
 #![tactic(auto)]
 
 use cube::Cube;
+use esop::refusal::Refusal;
 use input::fill;
 use reader::read_sheet;
 use sheet::write_sheet;
@@ -28,6 +29,6 @@ fn main(rt: HostRuntime) -> io::Result<()> {
             let rows = (heading.rows as usize).min(960);
             print_sheet(&rt, heading.inputs, heading.outputs, &list[0..rows])
         }
-        Err(refused) => { println!(rt; "refused {} line {}", refused.why.number(), refused.line) }
+        Err(refused) => println!(rt; "{refused}"),
     }
 }

@@ -13,7 +13,7 @@ use Rattle.cube.specs.BitLaws.{bit_mask}
 use Rattle.cube.specs.MakingLaws.{made_words}
 use Rattle.sheet.specs.Text.{row_text, line, chars, input_chars, output_chars, absent, keeps_at, keeps_to}
 use Rattle.sheet.specs.Writing.{all_keep}
-use Rattle.reader.specs.declared.state.Heading.{Heading}
+use Rattle.sheet.specs.declared.heading.Heading.{Heading}
 use Rattle.reader.specs.declared.state.ReadRefusal.{ReadRefusal}
 use Rattle.reader.specs.declared.state.Refused.{Refused}
 use Rattle.reader.specs.declared.state.State.TheVariants.{Inputs}

@@ -15,7 +15,7 @@ use Rattle.sheet.specs.Text.{digit, decimal, line, field, type_text, heading_tex
 use Rattle.sheet.specs.Writing.{in_range, all_keep}
 use Rattle.sheet.proofs.PutLaws.{chars_length, heading_length}
 use Rattle.sheet.proofs.SheetLaws.{sheet_length}
-use Rattle.reader.specs.declared.state.Heading.{Heading}
+use Rattle.sheet.specs.declared.heading.Heading.{Heading}
 use Rattle.reader.specs.declared.state.State.{State}
 use Rattle.reader.specs.declared.state.State.TheVariants as state
 use Rattle.reader.specs.Back.{all_words, ReadsBack}

@@ -1,13 +1,8 @@
 -- The product of a row, by its parts.
 -- Assumes nothing.
-use Rattle.std.proofs.Common.{◌≡◌, ℕ, true, false, List, Err, Option, ◌∙◌, ap₂}
-use Rattle.std.proofs.lemmas.Bool.{cond-true, cond-false}
-use Rattle.reader.specs.declared.state.ReadRefusal.TheVariants.{Malformed}
+use Rattle.std.proofs.Common.{◌≡◌, ℕ, true, List, Option, ◌∙◌, ap₂}
+use Rattle.std.proofs.lemmas.Bool.{cond-true}
 use Rattle.reader.specs.Rows.{form_words, driven_word, row_of_words, as_long, product_of}
-
-pub product_short : (i o : ℕ) (is os : List ℕ) → as_long i o is os ≡ false → product_of i o is os ≡ Err Malformed
-unfolding product_of
-product_short i o is os e = cond-false _ _ _ e
 
 pub product_long : (i o : ℕ) (is os : List ℕ) (f : Option (ℕ × ℕ)) (d : Option ℕ) → as_long i o is os ≡ true → form_words is ≡ f → driven_word os ≡ d
     → product_of i o is os ≡ row_of_words f d

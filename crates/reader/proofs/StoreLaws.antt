@@ -1,10 +1,10 @@
 -- Storing the products of a text, one after another.
 -- Assumes nothing.
-use Rattle.std.proofs.Common.{◌≡◌, ℕ, ◌+◌, ◌<◌, ◌≤◌, true, false, leb, List, [], ◌∷◌, ◌++◌, length, get_or, take, drop, set, Some, Ok, Err, Result, sym, refl, ap, ◌∙◌, subst, ap₂, ⊎_elim, arith}
+use Rattle.std.proofs.Common.{◌≡◌, ℕ, ◌+◌, ◌<◌, ◌≤◌, true, false, leb, List, [], ◌∷◌, ◌++◌, length, get_or, take, drop, set, Some, Ok, Err, Result, sym, refl, ap, ◌∙◌, ap₂, ⊎_elim, arith}
 use Rattle.std.proofs.lemmas.List.{drop_more, take_more, take_all, set_at, length-take-le, length-drop, append_assoc}
 use Rattle.std.proofs.lemmas.Bool.{cond-true, cond-false, cases_Bool, leb-true, false≢true}
 use Rattle.cube.specs.declared.cube.Cube.{Cube}
-use Rattle.reader.specs.declared.state.Heading.{Heading}
+use Rattle.sheet.specs.declared.heading.Heading.{Heading}
 use Rattle.reader.specs.declared.state.Refused.{Refused}
 use Rattle.reader.specs.declared.state.State.TheVariants.{Inputs}
 use Rattle.reader.specs.Lines.{pieces}
@@ -41,12 +41,6 @@ pub record Storing (v : Result Sheet Refused) (old new : List Cube) (k : ℕ) (r
   pub inside : k ≤ length (products_of v)
   pub held : new ≡ take k (products_of v) ++ drop k old
 
-pub storing_start : (v : Result Sheet Refused) (old : List Cube) → accepted v ≡ true → Storing v old old 0 v
-storing_start v old e = record { right = e; left = refl; inside = omega arith; held = refl }
-
-pub storing_same : (v : Result Sheet Refused) (old new : List Cube) (k : ℕ) (rest next : Result Sheet Refused) → rest ≡ next → Storing v old new k rest → Storing v old new k next
-storing_same v old new k rest next e h = subst (Storing v old new k) e h
-
 heads : (x y : Cube) (xs ys : List Cube) → x ∷ xs ≡ y ∷ ys → (x ≡ y) × (xs ≡ ys)
 heads x y xs ys e = (cc, cc)
 
@@ -77,30 +71,16 @@ module _ (v : Result Sheet Refused) (old new : List Cube) (k : ℕ) (rest : Resu
       )
   storing_more (Err f) e room h = absurd (false≢true (ap accepted (sym e) ∙ h.right))
 
-none_left : (a : Result Heading Refused) → products_of (closed a) ≡ []
-none_left (Ok h) = refl
-none_left (Err e) = refl
-
 stored_is : (v : Result Sheet Refused) (old : List Cube) → accepted v ≡ true → products_of v ++ drop (length (products_of v)) old ≡ stored old v
 stored_is (Ok s) old e = refl
 stored_is (Err f) old e = absurd (false≢true e)
 
-pub storing_all : (v : Result Sheet Refused) (old new : List Cube) (k : ℕ) (rest : Result Sheet Refused) (a : Result Heading Refused) → accepted v ≡ true → rest ≡ closed a
+pub storing_all : (v : Result Sheet Refused) (old new : List Cube) (k : ℕ) (rest : Result Sheet Refused) (h : Heading) → accepted v ≡ true → rest ≡ closed h
     → Storing v old new k rest → new ≡ stored old v
 storing_all v old new k rest a ok e h =
     let p = products_of v in
-    let nil : drop k p ≡ [] = sym h.left ∙ ap products_of e ∙ none_left a in
+    let nil : drop k p ≡ [] = sym h.left ∙ ap products_of e in
     let long = sym (length-drop k p) ∙ ap length nil in
     let in_all = h.inside in
     let same : k ≡ length p = omega arith in
     h.held ∙ ap₂ (λ x n. x ++ drop n old) (take_all k p (omega arith)) same ∙ stored_is v old ok
-
--- the same where the list and the count go by other names
-pub storing_as : (v : Result Sheet Refused) (old new new' : List Cube) (k k' : ℕ) (rest : Result Sheet Refused) → new' ≡ new → k' ≡ k → Storing v old new k rest → Storing v old new' k' rest
-storing_as v old new new' k k' rest e f h =
-    record {
-      right = h.right;
-      left = h.left ∙ ap (λ n. drop n (products_of v)) (sym f);
-      inside = let i = h.inside in omega arith;
-      held = e ∙ h.held ∙ ap (λ n. take n (products_of v) ++ drop n old) (sym f);
-    }

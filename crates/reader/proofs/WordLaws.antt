@@ -1,8 +1,16 @@
 -- The words of a row, for the loops that read it from its end.
 -- Assumes nothing.
-use Rattle.std.proofs.Common.{◌≡◌, ℕ, zero, suc, ◌+◌, ◌-◌, ◌*◌, ◌^◌, ◌<◌, ◌≤◌, eqb, List, [], ◌∷◌, length, get_or, drop, Some, None, Option, refl, ap, ◌∙◌, subst, pow-suc, arith}
+use Rattle.std.proofs.Common.{◌≡◌, ℕ, zero, suc, ◌+◌, ◌-◌, ◌*◌, ◌^◌, ◌<◌, ◌≤◌, eqb, List, [], ◌∷◌, length, get_or, drop, Some, None, Option, sym, refl, ap, ◌∙◌, subst, pow-suc, arith}
 use Rattle.std.proofs.lemmas.Bool.{cond_both}
-use Rattle.std.proofs.lemmas.List.{at_drop_more}
+use Rattle.std.proofs.lemmas.List.{at_drop_more, get_or-reverse, get_or_default, length-reverse}
+use Rattle.std.proofs.lemmas.Iterator.Adapters.{YieldsList-from_rev_slice}
+use Rattle.std.specs.Iterator.Adapters.{rev_source, rev_steps}
+use Rattle.std.specs.Slice.Iter.{iter_rest, iter_steps_back}
+use Rattle.std.specs.declared.iter.Rev.{Rev}
+use Rattle.std.specs.declared.slice.Iter.{Iter}
+use denote.Ref.{Bor}
+use Rattle.std.proofs.lemmas.Iterator.Consumers.{YieldsList-turn}
+use Rattle.std.specs.Iterator.{Yields}
 use Rattle.reader.specs.Rows.{form_bits, driven_bit, under, below, forms_over, driven_word}
 
 -- one character more at the front
@@ -14,14 +22,6 @@ forms_more n cs i z o v w pos le e r =
     let b : o + 2 * w ≡ w * 2 + o = omega arith in
     at_drop_more (forms_over n) cs (i - 1) 0 (omega arith)
     ∙ (λ j. under (e j) ((ap (λ m. forms_over n (drop m cs)) q ∙ r) j)) ∙ (λ j. Some (a j, b j))
-
-pub driven_more : (cs : List ℕ) (i d w : ℕ) → 0 < i → i ≤ length cs → driven_bit (get_or cs (i - 1) 0) ≡ Some d
-    → driven_word (drop i cs) ≡ Some w → driven_word (drop (i - 1) cs) ≡ Some (w * 2 + d)
-driven_more cs i d w pos le e r =
-    let q : i - 1 + 1 ≡ i = omega arith in
-    let a : d + 2 * w ≡ w * 2 + d = omega arith in
-    at_drop_more driven_word cs (i - 1) 0 (omega arith)
-    ∙ (λ j. below (e j) ((ap (λ m. driven_word (drop m cs)) q ∙ r) j)) ∙ (λ j. Some (a j))
 
 under_none : (f : Option (ℕ × ℕ)) → under f None ≡ None
 under_none None = refl
@@ -54,22 +54,20 @@ abbrev Bits : Option (ℕ × ℕ) → Type 0
 Bits None = Unit {0}
 Bits (Some f) = (f.0 < 2) × (f.1 < 2)
 
-abbrev Digit : Option ℕ → Type 0
-Digit None = Unit {0}
-Digit (Some d) = d < 2
-
 form_is_bits : (c : ℕ) → Bits (form_bits c)
 form_is_bits c =
     cond_both (eqb c 48) _ _ Bits (λ _. (omega arith, omega arith))
     (λ _. cond_both (eqb c 49) _ _ Bits (λ _. (omega arith, omega arith))
     (λ _. cond_both (eqb c 45) _ _ Bits (λ _. (omega arith, omega arith)) (λ _. tt)))
 
-driven_is_digit : (c : ℕ) → Digit (driven_bit c)
-driven_is_digit c =
-    cond_both (eqb c 48) _ _ Digit (λ _. omega arith) (λ _. cond_both (eqb c 49) _ _ Digit (λ _. omega arith) (λ _. tt))
-
 pub form_bits_below : (c z o : ℕ) → form_bits c ≡ Some (z, o) → (z < 2) × (o < 2)
 form_bits_below c z o e = subst Bits e (form_is_bits c)
 
-pub driven_bit_below : (c d : ℕ) → driven_bit c ≡ Some d → d < 2
-driven_bit_below c d e = subst Digit e (driven_is_digit c)
+-- a character that a reading from the end comes to spoils the row too
+pub driven_bad_turn : (cs : List ℕ) (s : Rev (Iter ℕ)) → iter_rest (rev_source s) ≡ cs → (xs : List (Bor ℕ)) (t : Rev (Iter ℕ)) → Yields (rev_steps iter_steps_back) s xs t
+    → (r : Option (Bor ℕ)) (u : Rev (Iter ℕ)) (x : Bor ℕ) → r ≡ Some x → rev_steps iter_steps_back t r u → driven_bit x.now ≡ None → driven_word cs ≡ None
+driven_bad_turn cs s rest xs t y r u x is step bad =
+    let m = YieldsList-turn (YieldsList-from_rev_slice cs rest) xs t y r u x is step in
+    let n = length-reverse cs in
+    driven_bad cs (length cs - 1 - length xs) (omega arith)
+    (ap driven_bit (sym (m.1 ∙ get_or-reverse cs (length xs) _ (omega arith) ∙ get_or_default cs _ _ 0 (omega arith))) ∙ bad)

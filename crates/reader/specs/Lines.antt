@@ -1,5 +1,5 @@
 -- The lines of a text, and what each of them is.
-use Rattle.std.specs.Prelude.{ℕ, suc, ◌+◌, Bool, cond, ◌||◌, List, [], ◌∷◌, length, take, drop, codes, ◌==◌, nat_lt}
+use Rattle.std.specs.Prelude.{◌≡◌, ◌<◌, ℕ, suc, ◌+◌, Bool, cond, ◌||◌, List, [], ◌∷◌, length, take, drop, codes, ◌==◌, nat_lt}
 use Rattle.std.specs.Str.{bytes_eq}
 use Rattle.reader.specs.declared.line.Line.{Line}
 use Rattle.reader.specs.declared.line.Line.TheVariants as line
@@ -38,6 +38,10 @@ pub data Shown : Type 0 where
 abbrev pub up_to : ℕ → List ℕ → ℕ
 up_to b [] = 0
 up_to b (c ∷ cs) = cond (c == b) 0 (suc (up_to b cs))
+
+-- before the first b stands h, and after it t
+abbrev pub IsCut : ℕ → List ℕ → List ℕ → List ℕ → Type 0
+IsCut b cs h t = (up_to b cs < length cs) × (h ≡ take (up_to b cs) cs) × (t ≡ drop (up_to b cs + 1) cs)
 
 abbrev pub row_of : List ℕ → Shown
 row_of cs = cond (nat_lt (up_to 32 cs) (length cs)) (row (take (up_to 32 cs) cs) (drop (up_to 32 cs + 1) cs)) plain

@@ -1,7 +1,8 @@
 -- What reading a text answers.
-use Rattle.std.specs.Prelude.{ℕ, ◌+◌, ◌-◌, cond, List, [], ◌∷◌, ◌++◌, length, drop, Some, None, Ok, Err, Option, Result, ◌==◌, nat_le}
+use Rattle.std.specs.Prelude.{ℕ, ◌+◌, ◌-◌, cond, List, [], ◌∷◌, ◌++◌, length, drop, codes, Some, None, Ok, Err, Option, Result, ◌==◌, nat_le}
+use Rattle.std.specs.Fmt.{decimal}
 use Rattle.cube.specs.declared.cube.Cube.{Cube}
-use Rattle.reader.specs.declared.state.Heading.{Heading}
+use Rattle.sheet.specs.declared.heading.Heading.{Heading}
 use Rattle.reader.specs.declared.state.ReadRefusal.{ReadRefusal}
 use Rattle.reader.specs.declared.state.ReadRefusal.TheVariants as why
 use Rattle.reader.specs.declared.state.Refused.{Refused}
@@ -25,6 +26,10 @@ number_of why.FewPlaces = 25
 
 abbrev pub refused : ReadRefusal → ℕ → Refused
 refused e n = record { why = e; line = n }
+
+-- the line that tells a refusal
+abbrev pub printed : Refused → List ℕ
+printed r = codes "refused " ++ decimal (number_of r.why) ++ codes " line " ++ decimal r.line
 
 -- a text that is accepted
 pub record Sheet : Type 0 where

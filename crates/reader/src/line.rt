@@ -1,6 +1,6 @@
 // The lines of a sheet, with their parts as parts of the text.
-ghost use Rattle.std.specs.Prelude.{◌≡◌, ◌≤◌, length};
-ghost use Rattle.reader.specs.Lines.{shown, class_of, row_of, dotted_of, word_of, up_to};
+ghost use Rattle.std.specs.Prelude.{◌≡◌, ◌==◌, length, position, MatchOption};
+ghost use Rattle.reader.specs.Lines.{shown, class_of, row_of, dotted_of, up_to, IsCut};
 
 #[derive(Clone, Copy)]
 pub enum Line<'a> {
@@ -20,61 +20,43 @@ pub enum Line<'a> {
     Plain,
 }
 
-// How many bytes stand before the first `b`.
-pub(crate) fn up_to(part: &[u8], b: u8) -> usize
-    ensures value { result ≡ up_to b part.now }
-    ensures inside { result ≤ length part.now }
+// Where the first `b` stands.
+fn place(part: &[u8], b: u8) -> Option<usize>
+    ensures { result ≡ position (λ c. c == b) part.now }
 {
-    for (i, x) in part.iter().enumerate() {
-        if *x == b {
-            return i;
-        }
-    }
-    part.len()
+    part.iter().position(|c| *c == b)
+}
+
+// What stands before the first `b`, and after it.
+pub(crate) fn cut(part: &[u8], b: u8) -> Option<(&[u8], &[u8])>
+    ensures { MatchOption result (up_to b part.now ≡ length part.now) (λ p. IsCut b part.now p.0.now p.1.now) }
+{
+    let n = place(part, b)?;
+    Some((&part[..n], &part[n + 1..]))
 }
 
 // A row, cut at its first space.
 fn split(line: &[u8]) -> Line<'_>
     ensures { shown result ≡ row_of line.now }
 {
-    let n = up_to(line, b' ');
-    if n < line.len() {
-        Line::Row {
-            inputs: &line[0..n],
-            outputs: &line[n + 1..],
-        }
-    } else {
-        Line::Plain
-    }
-}
-
-// A line without a letter of the heading, by what stands after its dot.
-fn word(rest: &[u8]) -> Line<'_>
-    ensures { shown result ≡ word_of rest.now }
-{
-    if rest == b"type esop".as_slice() {
-        return Line::Type;
-    }
-    if rest == b"e".as_slice() {
-        Line::End
-    } else {
-        Line::Dotted
+    match cut(line, b' ') {
+        Some((inputs, outputs)) => Line::Row { inputs, outputs },
+        None => Line::Plain,
     }
 }
 
 // A line that begins with a dot, by what stands after it.
+#[tactic(auto, using(crate::proofs::LineLaws::type_line))]
 fn dotted(rest: &[u8]) -> Line<'_>
     ensures { shown result ≡ dotted_of rest.now }
 {
-    if rest.len() == 0 {
-        return Line::Dotted;
-    }
-    let part = &rest[1..];
-    match rest[0] as char {
-        'i' => Line::Inputs(part),
-        'o' => Line::Outputs(part),
-        'p' => Line::Count(part),
-        _ => word(rest),
+    match rest {
+        [b'i', part @ ..] => Line::Inputs(part),
+        [b'o', part @ ..] => Line::Outputs(part),
+        [b'p', part @ ..] => Line::Count(part),
+        b"type esop" => Line::Type,
+        b"e" => Line::End,
+        _ => Line::Dotted,
     }
 }
 
@@ -82,12 +64,9 @@ fn dotted(rest: &[u8]) -> Line<'_>
 pub(crate) fn classify(line: &[u8]) -> Line<'_>
     ensures { shown result ≡ class_of line.now }
 {
-    if line.len() == 0 {
-        return Line::Skipped;
-    }
-    match line[0] as char {
-        '#' => Line::Skipped,
-        '.' => dotted(&line[1..]),
+    match line {
+        [] | [b'#', ..] => Line::Skipped,
+        [b'.', rest @ ..] => dotted(rest),
         _ => split(line),
     }
 }

@@ -4,7 +4,7 @@ ghost use Rattle.reader.specs.Back.{CallsReadBack, ReadsBack, Spells};
 ghost use Rattle.reader.specs.Reading.{verdict, read, told, stored};
 ghost use Rattle.reader.specs.Turns.{accepted};
 
-use crate::state::{Heading, ReadRefusal, Refused, State};
+use crate::state::{Heading, ReadRefusal, Refused};
 use crate::turn::{Reader, Turn};
 use cube::Cube;
 
@@ -13,44 +13,35 @@ fn judge(text: &[u8], places: usize) -> Result<Heading, Refused>
     requires { length text.now ≤ 64000 }
     ensures { result ≡ told (verdict places text.now) }
 {
-    let mut reader = Reader {
-        text,
-        at: 0,
-        places,
-        state: State::Inputs,
-    };
+    let mut reader = Reader::new(text, places);
+    // Counted by hand: only a refusal tells its line, and the reader that hands out the lines is not an iterator of them.
     let mut line = 1;
     loop {
-        if let Turn::Over(answer) = reader.turn(line) {
-            return answer;
+        match reader.turn().map_err(|why| Refused { why, line })? {
+            Turn::Passed => line += 1,
+            Turn::Product(_) => line += 1,
+            Turn::Ended(heading) => return Ok(heading),
         }
-        line += 1;
     }
 }
 
 // Stores the products of a text that was judged right.
+// A loop of its own: only such a text has a place in the list for each product, so none is looked for.
 fn store(text: &[u8], list: &mut [Cube])
     requires { accepted (read (length list.old) text.now) ≡ true }
     ensures { list.new ≡ stored list.old (read (length list.old) text.now) }
 {
-    let mut reader = Reader {
-        text,
-        at: 0,
-        places: list.len(),
-        state: State::Inputs,
-    };
-    let mut line = 1;
+    let mut reader = Reader::new(text, list.len());
     let mut row = 0;
-    loop {
-        match reader.turn(line) {
-            Turn::Over(_) => return,
+    while let Ok(turn) = reader.turn() {
+        match turn {
             Turn::Passed => {}
             Turn::Product(product) => {
                 list[row] = product;
                 row += 1;
             }
+            Turn::Ended(_) => break,
         }
-        line += 1;
     }
 }
 

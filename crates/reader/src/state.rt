@@ -1,6 +1,12 @@
 // Where the reader stands, what it answers, and why it refuses a text.
-ghost use Rattle.std.specs.Prelude.{◌≡◌};
-ghost use Rattle.reader.specs.Reading.{number_of};
+ghost use Rattle.std.specs.Prelude.{◌≡◌, Some};
+ghost use Rattle.reader.specs.Reading.{number_of, printed};
+ghost use Rattle.reader.specs.Rows.{row_refusal};
+
+use cube::CubeRefusal;
+use esop::refusal::Refusal;
+pub use sheet::Heading;
+use std::fmt;
 
 // The line that is due, with what was read before it. Of the heading's rows `left` are still to come.
 #[derive(Clone, Copy)]
@@ -11,14 +17,6 @@ pub enum State {
     Count { inputs: u32, outputs: u32 },
     Rows { heading: Heading, left: u32 },
     Ended { heading: Heading },
-}
-
-// The numbers that the heading of a text tells.
-#[derive(Clone, Copy, PartialEq, Eq, Debug)]
-pub struct Heading {
-    pub inputs: u32,
-    pub outputs: u32,
-    pub rows: u32,
 }
 
 // Why a text is refused.
@@ -44,18 +42,17 @@ pub enum ReadRefusal {
     FewPlaces,
 }
 
-// A refusal with the line that it is about, counted from 1; 0 is the whole text.
+// A refusal with the line that it is about, counted from 1; 0 is the whole text, and is printed so.
 #[derive(Clone, Copy, PartialEq, Eq, Debug)]
 pub struct Refused {
     pub why: ReadRefusal,
     pub line: usize,
 }
 
-impl ReadRefusal {
-    // The number under which it is reported.
-    pub fn number(self) -> u8
-        ensures { result ≡ number_of self }
-    {
+impl Refusal for ReadRefusal {
+    ghost number = { number_of };
+
+    fn number(self) -> u8 {
         match self {
             ReadRefusal::TooLong => 17,
             ReadRefusal::Unended => 18,
@@ -67,5 +64,25 @@ impl ReadRefusal {
             ReadRefusal::RowCount => 24,
             ReadRefusal::FewPlaces => 25,
         }
+    }
+}
+
+// Why a row makes no product. Each character gave its input a form, so what may lack is an output.
+impl From<CubeRefusal> for ReadRefusal {
+    ghost from_gives = { λ why refusal. refusal ≡ row_refusal why };
+
+    fn from(why: CubeRefusal) -> ReadRefusal {
+        match why {
+            CubeRefusal::NoForm => ReadRefusal::Malformed,
+            CubeRefusal::NoOutput => ReadRefusal::NoOutput,
+        }
+    }
+}
+
+impl fmt::Display for Refused {
+    ghost output = { λ refused. Some (printed refused) };
+
+    fn fmt<W: fmt::Write>(&self, f: &mut fmt::Formatter<W>) -> fmt::Result {
+        write!(f, "refused {} line {}", self.why.number(), self.line)
     }
 }

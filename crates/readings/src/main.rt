@@ -13,7 +13,7 @@ fn answer(rt: &HostRuntime, text: &[u8]) -> io::Result<()> {
             "ok {} {} {}",
             heading.inputs, heading.outputs, heading.rows
         ),
-        Err(refused) => println!(rt; "refused {} line {}", refused.why.number(), refused.line),
+        Err(refused) => println!(rt; "{refused}"),
     }
 }
 

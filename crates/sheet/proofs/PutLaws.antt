@@ -1,11 +1,10 @@
 -- Texts put into memory one after another, and their lengths.
 -- Assumes nothing.
-use Rattle.std.proofs.Common.{◌≡◌, ℕ, zero, suc, ◌+◌, ◌/◌, ◌<◌, ◌≤◌, List, [], ◌∷◌, ◌++◌, length, take, drop, set, codes, sym, refl, ap, ◌∙◌, subst, ap₂, add-one, arith, length-append}
-use lib.Seq.{paste, paste-zero, paste-suc, get_or_at, take-append-le}
+use Rattle.std.proofs.Common.{◌≡◌, ℕ, zero, suc, ◌+◌, ◌≤◌, List, [], ◌∷◌, ◌++◌, length, codes, sym, refl, ap, ◌∙◌, subst, add-one, arith, length-append}
+use lib.Seq.{paste}
 use Rattle.std.proofs.lemmas.List.Edits.{paste-paste}
-use Rattle.std.proofs.lemmas.Bool.{cond-true, cond-false, lt-ltb, le-ltb}
 use Rattle.cube.specs.declared.cube.Cube.{Cube}
-use Rattle.sheet.specs.Text.{digit, decimal, field, line, type_text, heading_text, chars, input_chars, output_chars, row_text}
+use Rattle.sheet.specs.Text.{decimal, field, line, type_text, heading_text, chars, input_chars, output_chars, row_text}
 use Rattle.sheet.specs.Refusing.{refusal_text}
 use Rattle.sheet.specs.Writing.{written, Put}
 
@@ -23,60 +22,20 @@ put_put {m} {n} {o} {p} {q} {r} s t le a b =
       past = let e = length-append s t in let f = a.past in let g = b.past in omega arith;
     }
 
--- one character more
-pub put_more : (m : List ℕ) (p : ℕ) (t : List ℕ) (x : ℕ) → p + length t < length m → set (written m p t) (p + length t) x ≡ written m p (t ++ x ∷ [])
-put_more m p t x lt =
-    let u = t ++ x ∷ [] in
-    let e = length-append t (x ∷ []) in
-    let front : take (length t) t ≡ take (length t) u = sym (take-append-le (length t) t (x ∷ []) (omega arith)) in
-    let next : suc (length t) ≡ length u = omega arith in
-    ap (λ y. set (take p m ++ y ++ drop (p + length t) m) (p + length t) x) front
-    ∙ ap (set (paste m p u (length t)) (p + length t)) (sym (get_or_at t x [] 0 (length t) refl))
-    ∙ paste-suc m p u (length t) 0 lt (omega arith)
-    ∙ ap (paste m p u) next
-
 pub chars_length : (f : ℕ → ℕ) (n : ℕ) → length (chars f n) ≡ n
 unfolding chars
 chars_length f zero = refl
 chars_length f (suc n) = let e = chars_length f n in length-append (chars f n) (f n ∷ []) ∙ omega arith
 
+pub chars_zero : (f : ℕ → ℕ) → chars f 0 ≡ []
+unfolding chars
+chars_zero f = refl
+
 pub chars_more : (f : ℕ → ℕ) (n : ℕ) → chars f (n + 1) ≡ chars f n ++ f n ∷ []
 unfolding chars
 chars_more f n = ap (chars f) (add-one n)
 
--- the start of a loop that writes the characters of f, a turn of it, and its end
-pub chars_start : (m : List ℕ) (p : ℕ) (f : ℕ → ℕ) → m ≡ written m p (chars f 0)
-unfolding chars
-chars_start m p f = paste-zero m p []
-
-pub put_char : (m n : List ℕ) (p j x : ℕ) (f : ℕ → ℕ) → p + j < length m → n ≡ written m p (chars f j) → x ≡ f j
-    → set n (p + j) x ≡ written m p (chars f (j + 1))
-put_char m n p j x f lt e h =
-    let l = chars_length f j in
-    ap (λ y. set y (p + j) x) e ∙ ap (λ k. set (written m p (chars f j)) (p + k) x) (sym l)
-    ∙ put_more m p (chars f j) x (omega arith) ∙ ap (λ y. written m p (chars f j ++ y ∷ [])) h
-    ∙ ap (written m p) (sym (chars_more f j))
-
-pub chars_put : (m n : List ℕ) (p j k r : ℕ) (f : ℕ → ℕ) → n ≡ written m p (chars f j) → j ≡ k → r ≡ p + k → Put m p (chars f k) n r
-chars_put m n p j k r f e h g =
-    record { memory = e ∙ ap (λ x. written m p (chars f x)) h; past = let l = chars_length f k in omega arith }
-
--- a number by the count of its digits
-pub one_digit : (n x : ℕ) → x ≡ digit n → n < 10 → x ∷ [] ≡ decimal n
-unfolding decimal
-one_digit n x e h = ap (λ k. k ∷ []) e ∙ sym (cond-true _ _ _ (lt-ltb n 10 h))
-
-pub two_digits : (n x y : ℕ) → x ≡ digit (n / 10) → y ≡ digit n → 10 ≤ n → n < 100 → x ∷ y ∷ [] ≡ decimal n
-unfolding decimal
-two_digits n x y e f l h = ap₂ (λ j k. j ∷ k ∷ []) e f ∙ sym (cond-false _ _ _ (le-ltb n 10 l) ∙ cond-true _ _ _ (lt-ltb n 100 h))
-
-pub three_digits : (n x y z : ℕ) → x ≡ digit (n / 100) → y ≡ digit (n / 10) → z ≡ digit n → 10 ≤ n → 100 ≤ n → x ∷ y ∷ z ∷ [] ≡ decimal n
-unfolding decimal
-three_digits n x y z e f g l h =
-    ap (λ k. k ∷ y ∷ z ∷ []) e ∙ ap₂ (λ j k. digit (n / 100) ∷ j ∷ k ∷ []) f g
-    ∙ sym (cond-false _ _ _ (le-ltb n 10 l) ∙ cond-false _ _ _ (le-ltb n 100 h))
-
-pub field_length : (letter n : ℕ) → length (line (field letter n)) ≡ length (decimal n) + 4
+field_length : (letter n : ℕ) → length (line (field letter n)) ≡ length (decimal n) + 4
 field_length letter n = let e = length-append (decimal n) (10 ∷ []) in omega arith
 
 pub row_length : (i o : ℕ) (c : Cube) → length (row_text i o c) ≡ i + o + 2

@@ -36,8 +36,8 @@ put_start {m} {n} {q} t h =
 -- the rows in turn, from the sheet s and the memory m to the sheet t and the memory n
 pub record RowsWritten (s : Headed) (m : List ℕ) (cs : List Cube) (t : Headed) (n : List ℕ) : Type 0 where
   pub due : s.due ≡ t.due + length cs
-  pub keep : all_keep s.inputs s.outputs cs ≡ true
-  pub rows : Put m s.at (flat_map (row_text s.inputs s.outputs) cs) n t.at
+  pub keep : all_keep s.heading.inputs s.heading.outputs cs ≡ true
+  pub rows : Put m s.at (flat_map (row_text s.heading.inputs s.heading.outputs) cs) n t.at
   pub within : t.at ≤ length n
   pub size : length n ≡ length m
 
@@ -58,7 +58,7 @@ rows_written (c ∷ cs) s t m n le r =
     let row = row_of s c in
     let ok = answered_ok (row_refusal s m c) (continued s c) u s r.1 in
     let due = first_yes (ltb 0 s.due) _ NoRowDue ok.0 in
-    let keeps = first_yes (keeps_to s.inputs s.outputs c) _ OutOfHeading due.1 in
+    let keeps = first_yes (keeps_to s.heading.inputs s.heading.outputs c) _ OutOfHeading due.1 in
     let room = first_yes (has_room m s.at row) _ Full keeps.1 in
     let fits = leb-true _ _ room.0 in
     let some = ltb-true _ _ due.0 in
@@ -66,8 +66,8 @@ rows_written (c ∷ cs) s t m n le r =
     let long : length (row_memory s m c) ≡ length m = ap length is ∙ length-paste m s.at row (length row) fits (omega arith) in
     let at : u.at ≡ s.at + length row = ap (λ x. x.at) ok.1 in
     let left : u.due ≡ s.due - 1 = ap (λ x. x.due) ok.1 in
-    let ins : u.inputs ≡ s.inputs = ap (λ x. x.inputs) ok.1 in
-    let outs : u.outputs ≡ s.outputs = ap (λ x. x.outputs) ok.1 in
+    let ins : u.heading.inputs ≡ s.heading.inputs = ap (λ x. x.heading.inputs) ok.1 in
+    let outs : u.heading.outputs ≡ s.heading.outputs = ap (λ x. x.heading.outputs) ok.1 in
     let rest = rows_written cs u t (row_memory s m c) n (omega arith) r.2 in
     let more = rest.due in
     let size = rest.size in
@@ -75,7 +75,7 @@ rows_written (c ∷ cs) s t m n le r =
       due = omega arith;
       keep = and_from _ _ keeps.0 (ap₂ (λ a b. all_keep a b cs) (sym ins) (sym outs) ∙ rest.keep);
       rows =
-          put_put row (flat_map (row_text s.inputs s.outputs) cs) le (record { memory = is; past = at })
+          put_put row (flat_map (row_text s.heading.inputs s.heading.outputs) cs) le (record { memory = is; past = at })
           (put_same _ _ (ap₂ (λ a b. flat_map (row_text a b) cs) ins outs) rest.rows);
       within = rest.within;
       size = omega arith;
@@ -98,8 +98,8 @@ text_in_turn m n i o r len cs w =
     let headed : memory_left (heading_refusal m i o r) m 0 head ≡ written m 0 head = ap (λ x. memory_left x m 0 head) ok.0 in
     let long = ap length headed ∙ length-paste m 0 head (length head) fits (omega arith) in
     let at : w.first.at ≡ length head = ap (λ x. x.at) ok.1 in
-    let ins : w.first.inputs ≡ i = ap (λ x. x.inputs) ok.1 in
-    let outs : w.first.outputs ≡ o = ap (λ x. x.outputs) ok.1 in
+    let ins : w.first.heading.inputs ≡ i = ap (λ x. x.heading.inputs) ok.1 in
+    let outs : w.first.heading.outputs ≡ o = ap (λ x. x.heading.outputs) ok.1 in
     let due : w.first.due ≡ r = ap (λ x. x.due) ok.1 in
     let rows = rows_written cs w.first w.last _ w.rowed (omega arith) w.rows in
     let done = answered_ok (end_refusal w.last w.rowed) (ended w.last) w.closed w.last w.ending in

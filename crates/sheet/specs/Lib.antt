@@ -1,4 +1,5 @@
 pub mod InTurn
+pub mod Pens
 pub mod Refusing
 pub mod Reporting
 pub mod Text

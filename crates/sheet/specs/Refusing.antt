@@ -37,3 +37,19 @@ pub record Answered {E : Type 0} (text : Result (List ℕ) E) (m : List ℕ) (r 
 abbrev pub printed_by : {E : Type 0} → (E → ℕ) → Result (List ℕ) E → List ℕ
 printed_by number (Ok text) = text
 printed_by number (Err why) = refusal_text (number why)
+
+-- what is printed of an answer, and what the memory holds: the text of that length at its start, or the line of the refusal
+abbrev pub answer_length : {E : Type 0} → (E → ℕ) → Result ℕ E → List ℕ → Option ℕ
+answer_length number (Ok len) m = Some len
+answer_length number (Err why) m = length_within m (refusal_text (number why))
+
+abbrev pub answer_memory : {E : Type 0} → (E → ℕ) → Result ℕ E → List ℕ → List ℕ
+answer_memory number (Ok len) m = m
+answer_memory number (Err why) m = kept_within m (refusal_text (number why))
+
+-- Whichever text was answered by r from whichever memory m, which left the memory n: that text is printed, or the line of its refusal. q is what is answered
+-- then, and n' what the memory holds.
+abbrev pub PrintsAnswered : {E : Type 0} → (E → ℕ) → Result ℕ E → List ℕ → Option ℕ → List ℕ → Type 0
+PrintsAnswered {E} number r n q n' =
+    (text : Result (List ℕ) E) (m : List ℕ) → Answered text m r n
+    → (q ≡ length_within m (printed_by number text)) × (n' ≡ kept_within m (printed_by number text))

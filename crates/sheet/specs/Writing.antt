@@ -52,7 +52,7 @@ heading_refusal m i o n = cond (in_range i o n) (cond (has_room m 0 (heading_tex
 
 -- the sheet after its heading
 abbrev pub begun : ℕ → ℕ → ℕ → Headed
-begun i o n = record { inputs = i; outputs = o; due = n; at = length (heading_text i o n) }
+begun i o n = record { heading = record { inputs = i; outputs = o; rows = n }; due = n; at = length (heading_text i o n) }
 
 abbrev pub heading_answer : Blank → List ℕ → ℕ → ℕ → ℕ → Result Headed (Blank × WriteRefusal)
 heading_answer b m i o n = answered (heading_refusal m i o n) (begun i o n) b
@@ -62,18 +62,17 @@ heading_memory m i o n = memory_left (heading_refusal m i o n) m 0 (heading_text
 
 -- the text of a product's row in a sheet
 abbrev pub row_of : Headed → Cube → List ℕ
-row_of s c = row_text s.inputs s.outputs c
+row_of s c = row_text s.heading.inputs s.heading.outputs c
 
 abbrev pub row_refusal : Headed → List ℕ → Cube → Option WriteRefusal
 row_refusal s m c =
     cond (nat_lt 0 s.due)
-    (cond (keeps_to s.inputs s.outputs c) (cond (has_room m s.at (row_of s c)) None (Some Full)) (Some OutOfHeading))
+    (cond (keeps_to s.heading.inputs s.heading.outputs c) (cond (has_room m s.at (row_of s c)) None (Some Full)) (Some OutOfHeading))
     (Some NoRowDue)
 
 -- the sheet after one row more
 abbrev pub continued : Headed → Cube → Headed
-continued s c =
-    record { inputs = s.inputs; outputs = s.outputs; due = s.due - 1; at = s.at + length (row_of s c) }
+continued s c = record { heading = s.heading; due = s.due - 1; at = s.at + length (row_of s c) }
 
 abbrev pub row_answer : Headed → List ℕ → Cube → Result Headed (Headed × WriteRefusal)
 row_answer s m c = answered (row_refusal s m c) (continued s c) s

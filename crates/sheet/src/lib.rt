@@ -1,7 +1,8 @@
 // Sheets: lists of products as text, written into memory that the caller lends.
 #![tactic(auto)]
 
-mod number;
+pub mod heading;
+mod pen;
 mod put;
 mod refuse;
 mod report;
@@ -12,7 +13,8 @@ mod tests;
 mod whole;
 mod write;
 
-pub use refuse::write_refusal;
+pub use heading::Heading;
+pub use refuse::{write_answer, write_refusal};
 pub use report::{run_len, write_run};
 pub use state::{Blank, Closed, Headed, WriteRefusal};
 pub use summary::RunSummary;

@@ -1,6 +1,8 @@
 // The states of a sheet that is being written, and why a call was refused.
-ghost use Rattle.std.specs.Prelude.{◌≡◌};
 ghost use Rattle.sheet.specs.Writing.{number};
+
+use crate::heading::Heading;
+use esop::refusal::Refusal;
 
 // A sheet of which nothing is written. Each call takes the sheet and hands on the next state, so a state is used once.
 #[derive(Drop)]
@@ -9,8 +11,7 @@ pub struct Blank {}
 // A sheet with its heading: `due` rows are still to come, and `at` bytes are written.
 #[derive(Drop)]
 pub struct Headed {
-    pub(crate) inputs: u32,
-    pub(crate) outputs: u32,
+    pub(crate) heading: Heading,
     pub(crate) due: u32,
     pub(crate) at: usize,
 }
@@ -36,11 +37,10 @@ pub enum WriteRefusal {
     RowsMissing,
 }
 
-impl WriteRefusal {
-    // The number under which it is reported.
-    pub fn number(self) -> u8
-        ensures { result ≡ number self }
-    {
+impl Refusal for WriteRefusal {
+    ghost number = { number };
+
+    fn number(self) -> u8 {
         match self {
             WriteRefusal::Range => 27,
             WriteRefusal::Full => 28,

@@ -1,10 +1,22 @@
 // A small sheet, and each refusal once.
+use crate::heading::Heading;
+use crate::refuse::write_answer;
 use crate::state::{Blank, Headed, WriteRefusal};
 use crate::whole::write_sheet;
 use cube::{Cube, CubeRefusal, Form};
+use esop::refusal::Refusal;
 use std::test::Fail;
 
 const SMALL: [u8; 45] = *b".i 3\n.o 2\n.type esop\n.p 2\n01- 10\n--1 11\n.e\n??";
+
+// A heading of these numbers.
+fn heading(inputs: u32, outputs: u32, rows: u32) -> Heading {
+    Heading {
+        inputs,
+        outputs,
+        rows,
+    }
+}
 
 // The rows of SMALL.
 fn products() -> Result<[Cube; 2], CubeRefusal> {
@@ -18,22 +30,19 @@ fn products() -> Result<[Cube; 2], CubeRefusal> {
     ])
 }
 
+// The next state of a sheet, where the call was accepted.
+fn accepted<S, T: Drop>(answer: Result<S, (T, WriteRefusal)>) -> Result<S, Fail> {
+    answer.map_err(|_| Fail::new("refused"))
+}
+
 #[test]
 fn small_sheet_by_states(rt: HostRuntime) -> Result<(), Fail> {
     let [first, second] = products()?;
     let mut memory = [b'?'; 45];
-    let Ok(sheet) = Blank::new().head(&mut memory, 3, 2, 2) else {
-        return Err(Fail::new("no heading"));
-    };
-    let Ok(sheet) = sheet.row(&mut memory, &first) else {
-        return Err(Fail::new("no first row"));
-    };
-    let Ok(sheet) = sheet.row(&mut memory, &second) else {
-        return Err(Fail::new("no second row"));
-    };
-    let Ok(closed) = sheet.end(&mut memory) else {
-        return Err(Fail::new("no end"));
-    };
+    let sheet = accepted(Blank::new().head(&mut memory, heading(3, 2, 2)))?;
+    let sheet = accepted(sheet.row(&mut memory, &first))?;
+    let sheet = accepted(sheet.row(&mut memory, &second))?;
+    let closed = accepted(sheet.end(&mut memory))?;
     assert_eq!(rt; closed.len(), 43);
     assert_eq!(rt; memory, SMALL);
     Ok(())
@@ -57,17 +66,20 @@ fn refused<S: Drop, T: Drop>(answer: Result<S, (T, WriteRefusal)>) -> u8 {
 
 // A sheet of one input and one output, headed in 26 bytes.
 fn headed(memory: &mut [u8], rows: u32) -> Result<Headed, Fail> {
-    match Blank::new().head(memory, 1, 1, rows) {
-        Ok(sheet) => Ok(sheet),
-        Err(_) => Err(Fail::new("no heading")),
-    }
+    accepted(Blank::new().head(memory, heading(1, 1, rows)))
 }
 
 #[test]
 fn heading_refusals(rt: HostRuntime) {
     let mut memory = [b'?'; 25];
-    assert_eq!(rt; refused(Blank::new().head(&mut memory, 33, 1, 0)), 27);
-    assert_eq!(rt; refused(Blank::new().head(&mut memory, 1, 1, 0)), 28);
+    assert_eq!(rt;
+        refused(Blank::new().head(&mut memory, heading(33, 1, 0))),
+        27
+    );
+    assert_eq!(rt;
+        refused(Blank::new().head(&mut memory, heading(1, 1, 0))),
+        28
+    );
     assert_eq!(rt; memory, [b'?'; 25]);
 }
 
@@ -98,4 +110,19 @@ fn end_refusals(rt: HostRuntime) -> Result<(), Fail> {
     assert_eq!(rt; refused(sheet.end(&mut shorter)), 28);
     assert_eq!(rt; shorter, [b'?'; 4]);
     Ok(())
+}
+
+#[test]
+fn answers(rt: HostRuntime) {
+    let mut memory = *b"a text....?";
+    assert_eq!(rt; write_answer::<WriteRefusal>(&mut memory, Ok(6)), Some(6));
+    assert_eq!(rt; memory, *b"a text....?");
+    assert_eq!(rt;
+        write_answer(&mut memory, Err(WriteRefusal::Full)),
+        Some(11)
+    );
+    assert_eq!(rt; memory, *b"refused 28\n");
+    let mut shorter = [b'?'; 10];
+    assert_eq!(rt; write_answer(&mut shorter, Err(WriteRefusal::Full)), None);
+    assert_eq!(rt; shorter, [b'?'; 10]);
 }

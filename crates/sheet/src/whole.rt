@@ -1,43 +1,41 @@
 // A whole sheet in one call.
-ghost use Rattle.std.specs.Prelude.{◌≡◌, ◌≤◌, true, List, length};
-ghost use Rattle.cube.specs.declared.cube.Cube.{Cube as Product};
+ghost use Rattle.std.specs.Prelude.{◌≡◌, true, cond, length};
+ghost use Rattle.sheet.specs.Pens.{Room, Wrote};
 ghost use Rattle.sheet.specs.Text.{sheet_text};
-ghost use Rattle.sheet.specs.Writing.{Put, in_range, all_keep, sheet_answer, sheet_memory};
+ghost use Rattle.sheet.specs.Writing.{in_range, sheet_answer, sheet_memory};
 
-use crate::state::{Blank, Closed, WriteRefusal};
-use crate::write::{begin, finish, has_room, heading_len, in_range, keeps, proceed, row_len};
+use crate::heading::Heading;
+use crate::pen::Pen;
+use crate::state::WriteRefusal;
 use cube::Cube;
 
-// Whether every product keeps to the inputs and outputs that the heading tells.
-fn all_keep(products: &[Cube], inputs: u32, outputs: u32) -> bool
-    ensures { result ≡ all_keep inputs outputs products.now }
+// The heading of a sheet of so many rows, where there is one.
+fn heading_in_range(inputs: u32, outputs: u32, rows: usize) -> Option<Heading>
+    ensures { result ≡ cond (in_range inputs outputs rows) (Some (record { inputs = inputs; outputs = outputs; rows = rows })) None }
 {
-    for product in products {
-        if !keeps(product, inputs, outputs) {
-            return false;
+    let rows = u32::try_from(rows).ok()?;
+    let heading = Heading {
+        inputs,
+        outputs,
+        rows,
+    };
+    heading.in_range().then_some(heading)
+}
+
+impl Pen<'_> {
+    // Writes the whole sheet of the products.
+    fn sheet(&mut self, heading: Heading, products: &[Cube])
+        requires rows { length products.now ≡ heading.rows }
+        requires range { in_range heading.inputs heading.outputs heading.rows ≡ true }
+        requires room { Room self.old (sheet_text heading.inputs heading.outputs products.now) }
+        ensures { Wrote self.old (sheet_text heading.inputs heading.outputs products.now) self.new }
+    {
+        self.heading(heading);
+        for product in products {
+            self.row(heading, product);
         }
+        self.end();
     }
-    true
-}
-
-// How long the sheet is, whichever its products.
-fn sheet_len(inputs: u32, outputs: u32, rows: usize) -> usize
-    requires { in_range inputs outputs rows ≡ true }
-    ensures { (cs : List Product) → length cs ≡ rows → result ≡ length (sheet_text inputs outputs cs) }
-{
-    heading_len(inputs, outputs, rows as u32) + rows * row_len(inputs, outputs) + 3
-}
-
-// Writes the sheet, for which there is room.
-fn put_sheet(memory: &mut [u8], inputs: u32, outputs: u32, products: &[Cube]) -> Closed
-    requires { (length products.now ≤ 960) × (length (sheet_text inputs outputs products.now) ≤ length memory.old) }
-    ensures { Put memory.old 0 (sheet_text inputs outputs products.now) memory.new result.len }
-{
-    let mut sheet = begin(Blank::new(), memory, inputs, outputs, products.len() as u32);
-    for product in products {
-        sheet = proceed(sheet, memory, product);
-    }
-    finish(sheet, memory)
 }
 
 // Writes the sheet of the products from the start of the memory, and answers the number of its bytes.
@@ -50,15 +48,14 @@ pub fn write_sheet(
     ensures answer { result ≡ sheet_answer memory.old inputs outputs products.now }
     ensures text { memory.new ≡ sheet_memory memory.old inputs outputs products.now }
 {
-    let rows = products.len();
-    if !in_range(inputs, outputs, rows) {
-        return Err(WriteRefusal::Range);
-    }
-    if !all_keep(products, inputs, outputs) {
+    let heading = heading_in_range(inputs, outputs, products.len()).ok_or(WriteRefusal::Range)?;
+    if !heading.kept_by_all(products) {
         return Err(WriteRefusal::OutOfHeading);
     }
-    if !has_room(memory.len(), 0, sheet_len(inputs, outputs, rows)) {
+    let mut pen = Pen::new(memory, 0);
+    if !pen.has_room(heading.sheet_len()) {
         return Err(WriteRefusal::Full);
     }
-    Ok(put_sheet(memory, inputs, outputs, products).len())
+    pen.sheet(heading, products);
+    Ok(pen.at())
 }

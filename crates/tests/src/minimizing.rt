@@ -1,6 +1,7 @@
 // A small text, loaded, shrunk and printed, and each refusal once.
 use cover::memory::{Cover, MOST};
 use cube::Cube;
+use esop::refusal::Refusal;
 use minimizer::{load, minimize, print_minimized};
 
 const SHEET: [u8; 47] = *b".i 3\n.o 1\n.type esop\n.p 3\n11- 1\n00- 1\n-11 1\n.e\n";
@@ -8,12 +9,12 @@ const SHEET: [u8; 47] = *b".i 3\n.o 1\n.type esop\n.p 3\n11- 1\n00- 1\n-11 1\n.e
 const PRINTOUT: [u8; 107] = *b"# reduce tried 7 kept 1 finished\n# refine tried 6 kept 0 finished\n\
 .i 3\n.o 1\n.type esop\n.p 2\n-10 1\n0-- 1\n.e\n";
 
-// The count after a text is loaded into an empty cover of the places, or the number of the refusal as the second.
-fn loaded(text: &[u8], list: &mut [Cube], places: &mut [Cube]) -> (usize, u8) {
+// The count after a text is loaded into an empty cover of the places, or the number of the refusal.
+fn loaded(text: &[u8], list: &mut [Cube], places: &mut [Cube]) -> Result<usize, u8> {
     let mut cover = Cover::<Cube, MOST>::open(places);
     match load(text, list, &mut cover) {
-        Ok(loaded) => (loaded.count, 0),
-        Err(why) => (0, why.number()),
+        Ok(loaded) => Ok(loaded.count),
+        Err(why) => Err(why.number()),
     }
 }
 
@@ -23,26 +24,24 @@ fn loads(rt: HostRuntime) {
     let mut list = blank;
     assert_eq!(rt;
         loaded(&SHEET[1..], &mut list, &mut [Cube::tautology(); 3]),
-        (0, 26)
+        Err(26)
     );
     assert_eq!(rt;
         loaded(&SHEET, &mut list, &mut [Cube::tautology(); 2]),
-        (0, 1)
+        Err(1)
     );
     assert_eq!(rt; list, blank);
     assert_eq!(rt;
         loaded(&SHEET, &mut list, &mut [Cube::tautology(); 3]),
-        (3, 0)
+        Ok(3)
     );
     assert_ne!(rt; list, blank);
 }
 
-// The number under which the sheet is not shrunk, or 0.
-fn refused(places: &mut [Cube], list: &mut [Cube], work: &mut [Cube]) -> u8 {
-    match minimize(&SHEET, places, list, work) {
-        Ok(_) => 0,
-        Err(why) => why.number(),
-    }
+// The number under which the sheet is not shrunk, if it is refused.
+fn refused(places: &mut [Cube], list: &mut [Cube], work: &mut [Cube]) -> Option<u8> {
+    let why = minimize(&SHEET, places, list, work).err()?;
+    Some(why.number())
 }
 
 #[test]
@@ -51,10 +50,10 @@ fn refusals(rt: HostRuntime) {
     let mut three = [Cube::tautology(); 3];
     let mut four = [Cube::tautology(); 4];
     let mut five = [Cube::tautology(); 5];
-    assert_eq!(rt; refused(&mut three, &mut two, &mut five), 26);
-    assert_eq!(rt; refused(&mut two, &mut three, &mut five), 1);
-    assert_eq!(rt; refused(&mut five, &mut three, &mut four), 6);
-    assert_eq!(rt; refused(&mut four, &mut three, &mut five), 0);
+    assert_eq!(rt; refused(&mut three, &mut two, &mut five), Some(26));
+    assert_eq!(rt; refused(&mut two, &mut three, &mut five), Some(1));
+    assert_eq!(rt; refused(&mut five, &mut three, &mut four), Some(6));
+    assert_eq!(rt; refused(&mut four, &mut three, &mut five), None);
 }
 
 #[test]

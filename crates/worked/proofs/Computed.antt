@@ -4,7 +4,7 @@ use Rattle.esop.specs.Kind.{differing_below}
 use Rattle.esop.specs.Criterion.{reduce, refine}
 use Rattle.esop.specs.Entering.{total_weight, seek, entered_within, entered, entered_all}
 use Rattle.esop.specs.Linking.{arranged, path, link, result}
-use Rattle.esop.specs.Running.{orders_from, groups_with, groups_from, run_from, finished, spent, run}
+use Rattle.esop.specs.Running.{orders_from, groups_with, groups_from, run_from, run}
 use Rattle.esop.specs.History.{accept, refuse, judged, linked}
 use Rattle.cube.specs.Cubes.{made}
 use Rattle.cube.specs.Positions.{count, cubes}
@@ -18,6 +18,7 @@ use Rattle.expansion.specs.Expansions.{cost, products, chosen}
 use Rattle.expansion.specs.Tables.{exponent_below}
 use Rattle.worked.specs.Rows.{row, cube, block}
 use Rattle.worked.specs.Worked.{pair, pair_linked, three, holding, Came}
+use Rattle.esop.specs.declared.ending.End.TheVariants.{Spent, Finished}
 
 pub cancelled : entered cubes (cube "11") (cube "11" ∷ []) ≡ []
 unfolding made differing_below seek entered_within entered
@@ -63,11 +64,11 @@ pub three_entered : entered_all cubes three [] ≡ three
 unfolding made differing_below seek entered_within entered entered_all
 three_entered = refl
 
-pub budget_seven : Came (run cubes reduce 7 three) finished 7 1 (cube "-10" ∷ cube "0--" ∷ [])
+pub budget_seven : Came (run cubes reduce 7 three) Finished 7 1 (cube "-10" ∷ cube "0--" ∷ [])
 unfolding made count differing_below seek entered_within entered entered_all arranged path result orders_from groups_with groups_from run_from
 budget_seven = record { ending = refl; trials = refl; links = refl; cover = refl }
 
-pub budget_six : Came (run cubes reduce 6 three) spent 6 1 (cube "-10" ∷ cube "0--" ∷ [])
+pub budget_six : Came (run cubes reduce 6 three) Spent 6 1 (cube "-10" ∷ cube "0--" ∷ [])
 unfolding made count differing_below seek entered_within entered entered_all arranged path result orders_from groups_with groups_from run_from
 budget_six = record { ending = refl; trials = refl; links = refl; cover = refl }
 

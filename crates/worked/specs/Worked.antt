@@ -3,7 +3,7 @@ use Rattle.std.specs.Prelude.{◌≡◌, ℕ, List, [], ◌∷◌, length, Ok}
 use Rattle.esop.specs.Criterion.{reduce, refine}
 use Rattle.esop.specs.Entering.{total_weight, entered, entered_all}
 use Rattle.esop.specs.Linking.{arranged, link}
-use Rattle.esop.specs.Running.{Ending, finished, spent, Outcome, run, kept_of}
+use Rattle.esop.specs.Running.{Outcome, run, kept_of}
 use Rattle.esop.specs.History.{Held, accept, refuse, linked}
 use Rattle.cube.specs.Positions.{cubes}
 use Rattle.cube.specs.declared.cube.Cube.{Cube}
@@ -11,6 +11,8 @@ use Rattle.block.specs.Products.{blocks}
 use Rattle.block.specs.Sizes.{Fewest, size_of}
 use Rattle.expansion.specs.Answers.{expansion_of}
 use Rattle.worked.specs.Rows.{row, cube, block}
+use Rattle.esop.specs.declared.ending.End.{End}
+use Rattle.esop.specs.declared.ending.End.TheVariants.{Spent, Finished}
 
 -- two products at distance 2
 abbrev pub pair : List Cube
@@ -29,7 +31,7 @@ abbrev pub holding : List Cube → List Cube → Held Cube
 holding c free = record { used = c; free = free }
 
 -- how a run ended, how many groups it tried, how many links it kept, and the cover that it left
-pub record Came (r : Outcome Cube) (e : Ending) (tried kept : ℕ) (c : List Cube) : Type 0 where
+pub record Came (r : Outcome Cube) (e : End) (tried kept : ℕ) (c : List Cube) : Type 0 where
   pub ending : r.ending ≡ e
   pub trials : length r.trials ≡ tried
   pub links : length (kept_of r.trials) ≡ kept
@@ -57,9 +59,9 @@ pub record WorkedExamples : Type 0 where
   -- no two of the three meet as they are entered, so that they are a cover
   pub three_entered : entered_all cubes three [] ≡ three
   -- a kept link, and the six orders of the two products that it leaves, take seven of the budget
-  pub budget_seven : Came (run cubes reduce 7 three) finished 7 1 (cube "-10" ∷ cube "0--" ∷ [])
+  pub budget_seven : Came (run cubes reduce 7 three) Finished 7 1 (cube "-10" ∷ cube "0--" ∷ [])
   -- with six the last order is left to try
-  pub budget_six : Came (run cubes reduce 6 three) spent 6 1 (cube "-10" ∷ cube "0--" ∷ [])
+  pub budget_six : Came (run cubes reduce 6 three) Spent 6 1 (cube "-10" ∷ cube "0--" ∷ [])
   -- the table of the exclusive or of two inputs, for output 0
   pub either_expanded : expansion_of (0 ∷ 1 ∷ 1 ∷ 0 ∷ []) 0 960 ≡ Ok (cube "0-" ∷ cube "-0" ∷ [])
   -- the table that has a 1 only where both inputs are 1

@@ -8,11 +8,7 @@ fn print_read(rt: &HostRuntime, row: &str) -> io::Result<()> {
     let text = format!(in rt.alloc(); ".i 2\n.o 1\n.type esop\n.p 1\n{row}\n.e\n")?;
     match read_sheet(text.as_bytes(), &mut [Cube::tautology(); 1]) {
         Ok(_) => println!(rt; "row {row} under .i 2 and .o 1: read"),
-        Err(refused) => {
-            let number = refused.why.number();
-            let line = refused.line;
-            println!(rt; "row {row} under .i 2 and .o 1: refused {number} line {line}")
-        }
+        Err(refused) => println!(rt; "row {row} under .i 2 and .o 1: {refused}"),
     }
 }
 

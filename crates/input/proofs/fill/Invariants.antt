@@ -1,5 +1,8 @@
 use Rattle.std.proofs.Common.{◌≤◌, length}
 use Rattle.input.proofs.fill.Given as goal
 
-abbrev pub invariant-loop : goal.invariant-loop
-invariant-loop _ l = l.have ≤ length l.initial.memory
+abbrev pub invariant-loop-input : goal.invariant-loop-input
+invariant-loop-input g l = length l.rest ≤ l.len
+
+abbrev pub decreases-loop-input : goal.decreases-loop-input
+decreases-loop-input g l = length l.rest

@@ -6,6 +6,8 @@ use Rattle.cover.proofs.serve.serve_all.Given as goal
 
 abbrev pub invariant-loop-i : goal.invariant-loop-i
 invariant-loop-i g l =
-    Turned g.P.Product.meaning g.C.Criterion.keeps l.initial.cover.places.now l.list l.requests (length l.initial.work) l.initial.answers l.cover l.answers l.i
-    × (l.cover.places.ghost_name ≡ l.initial.cover.places.ghost_name)
-    × (AllByRecursion Untouched (take l.i l.answers) → l.work ≡ l.initial.work)
+    record {
+      turned : Turned g.P.Product.meaning g.C.Criterion.keeps l.initial.cover.places.now l.list l.requests (length l.initial.work) l.initial.answers l.cover l.answers l.i;
+      lender : l.cover.places.ghost_name ≡ l.initial.cover.places.ghost_name;
+      work : AllByRecursion Untouched (take l.i l.answers) → l.work ≡ l.initial.work;
+    }

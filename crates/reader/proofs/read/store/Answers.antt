@@ -1,58 +1,25 @@
-use Rattle.std.proofs.Common.{◌<◌, length, sym, refl, ap, ◌∙◌, arith}
-use Rattle.reader.specs.Reading.{stored}
-use Rattle.reader.proofs.StoreLaws.{few, read_judged, storing_start, storing_more, storing_same, storing_all, storing_as}
+use Rattle.std.proofs.Common.{◌<◌, ◌+◌, length, set, Ok, sym, ap, ◌∙◌, subst, arith}
+use Rattle.reader.specs.Reading.{verdict, stored}
+use Rattle.reader.specs.Turns.{Turned, judged_at}
+use Rattle.reader.proofs.StoreLaws.{Storing, products_of, few, read_judged, storing_more, storing_all}
 use Rattle.reader.proofs.read.store.Goals as goal
-use Rattle.reader.proofs.read.store.Goals.{in-Passed, in-Product}
 
-pub returns-in-Over : goal.returns-in-Over
-returns-in-Over c =
+pub returns-in-Ended : goal.returns-in-Ended
+returns-in-Ended c =
     let q = read_judged (length c.args.list.now) c.args.text.now c.requires in
-    storing_all _ _ _ _ _ _ q.1 c.in-Over.ensures c.loop-product.invariant.0 ∙ ap (stored c.args.list.now) (sym q.2)
-
-pub loop-product-init : goal.loop-product-init
-loop-product-init c =
-    let q = read_judged (length c.args.list.now) c.args.text.now c.requires in
-    (storing_start _ _ q.1, refl, omega arith, omega arith)
-
-pub overflow_add-line : goal.overflow_add-line
-overflow_add-line c =
-    let q = read_judged (length c.args.list.now) c.args.text.now c.requires in
-    let h = c.loop-product.invariant in
-    omega (arith, q.0, h.2, h.3)
+    let t = subst (λ u. Turned c.loop-turn.reader c.turn.new.self (Ok u)) c.in-Ended.is c.in-Ok.ensures in
+    storing_all _ _ _ _ _ _ q.1 (t c.loop-turn.invariant.0) c.loop-turn.invariant.1 ∙ ap (stored c.args.list.now) (sym q.2)
 
 -- the row that is stored is one of those that the text has
-row_below : (c : goal.In-Product) → (c.loop-product.row < 960) × (c.loop-product.row < length c.args.list.now)
-row_below c =
-    let f = few (length c.args.list.now) c.args.text.now in
-    let m = storing_more _ _ _ _ _ _ _ c.in-Product.ensures.0 f.1 c.loop-product.invariant.0 in
-    (omega (arith, m.0), omega (arith, m.0))
-
-pub offset_bounds-list-row : goal.offset_bounds-list-row
-offset_bounds-list-row c = let b = row_below c in omega arith
+more : (c : goal.In-Product) → (c.loop-turn.row < length (products_of (verdict (length c.args.list.now) c.args.text.now)))
+    × Storing (verdict (length c.args.list.now) c.args.text.now) c.args.list.now (set c.loop-turn.list c.loop-turn.row c.in-Product.product) (c.loop-turn.row + 1)
+    (judged_at c.turn.new.self (c.loop-turn.invariant.0 + 1))
+more c =
+    let t = subst (λ u. Turned c.loop-turn.reader c.turn.new.self (Ok u)) c.in-Product.is c.in-Ok.ensures in
+    storing_more _ _ _ _ _ _ _ (t.0 c.loop-turn.invariant.0) (few (length c.args.list.now) c.args.text.now).1 c.loop-turn.invariant.1
 
 pub bounds-list-row : goal.bounds-list-row
-bounds-list-row c = let b = row_below c in omega arith
+bounds-list-row c = let m = more c in let f = few (length c.args.list.now) c.args.text.now in omega arith
 
-pub overflow_add-row : goal.overflow_add-row
-overflow_add-row c = let b = row_below c in omega arith
-
-pub loop-product-preserved : goal.loop-product-preserved
-loop-product-preserved c =
-    let h = c.loop-product.invariant in
-    let f = few (length c.args.list.now) c.args.text.now in
-    elim c.match-turn.branch [
-      | in-Passed w ↦
-          let t = w.in-Passed.ensures in (
-            storing_as _ _ _ _ _ _ _ w.list-is w.row-is (storing_same _ _ _ _ _ _ t.0 h.0),
-            t.1.0 ∙ h.1,
-            omega (arith, t.1.2, ap length h.1),
-            omega (arith, t.1.1, h.3),
-          )
-      | in-Product w ↦
-          let t = w.in-Product.ensures in (
-            storing_as _ _ _ _ _ _ _ w.list-is w.row-is (storing_more _ _ _ _ _ _ _ t.0 f.1 h.0).1,
-            t.1.0 ∙ h.1,
-            omega (arith, t.1.2, ap length h.1),
-            omega (arith, t.1.1, h.3),
-          )
-    ]
+pub loop-turn-preserved : goal.loop-turn-preserved
+loop-turn-preserved c = (c.loop-turn.invariant.0 + 1, (more c).1)

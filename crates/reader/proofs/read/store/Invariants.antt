@@ -1,13 +1,12 @@
-use Rattle.std.proofs.Common.{◌≡◌, ◌+◌, ◌-◌, ◌≤◌, length}
+use Rattle.std.proofs.Common.{ℕ, length}
 use Rattle.reader.specs.Reading.{verdict}
 use Rattle.reader.specs.Turns.{judged_at}
 use Rattle.reader.proofs.StoreLaws.{Storing}
 use Rattle.reader.proofs.read.store.Given as goal
 
-abbrev pub invariant-loop-product : goal.invariant-loop-product
-invariant-loop-product l =
-    Storing (verdict (length l.initial.list) l.text) l.initial.list l.list l.row (judged_at l.reader l.line)
-    × (l.reader.text.now ≡ l.text) × (l.reader.at ≤ length l.text) × (l.line ≤ l.reader.at + 1)
+abbrev pub invariant-loop-turn : goal.invariant-loop-turn
+invariant-loop-turn l =
+    (n : ℕ) × Storing (verdict (length l.initial.list) l.text) l.initial.list l.list l.row (judged_at l.reader n)
 
-abbrev pub decreases-loop-product : goal.decreases-loop-product
-decreases-loop-product l = length l.text - l.reader.at
+abbrev pub decreases-loop-turn : goal.decreases-loop-turn
+decreases-loop-turn l = length l.reader.rest.now

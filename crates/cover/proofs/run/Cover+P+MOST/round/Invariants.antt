@@ -1,21 +1,25 @@
-use Rattle.std.proofs.Common.{◌≡◌, ◌+◌, ◌-◌, ◌*◌, ◌^◌, ◌≤◌}
-use Rattle.esop.specs.Running.{all_tried, run}
-use Rattle.cover.specs.Holding.{used, held_of}
-use Rattle.cover.specs.Recording.{rows_of}
-use Rattle.cover.specs.Rounds.{final}
+use Rattle.std.proofs.Common.{◌≡◌, ◌+◌}
 use Rattle.cover.proofs.Walking.{Walk}
 use Rattle.cover.proofs.run.Cover+P+MOST.round.Given as goal
 
-abbrev pub invariant-loop-p : goal.invariant-loop-p
-invariant-loop-p g l =
-    let m = g.P.Product.meaning in
-    let test = g.C.Criterion.keeps l.criterion in
-    let c = l.initial.self in
-    let s = rows_of l.initial.tally in
-    Walk m test (final m (held_of c) s (run m test (l.budget - all_tried s) (used c))) l.budget c l.self (rows_of l.tally) l.p l.q l.o
-    × (all_tried s ≤ all_tried (rows_of l.tally))
-    × (all_tried (rows_of l.tally) ≡ all_tried s → l.work ≡ l.initial.work)
+-- the groups of the places before are tried, and the cover is as it was
+abbrev pub invariant-loop-first : goal.invariant-loop-first
+invariant-loop-first g l =
+    record {
+      same : l.self ≡ l.fn.self;
+      walk : Walk g.P.Product.meaning (g.C.Criterion.keeps l.criterion) l.budget l.fn.self l.fn.tally l.fn.work l.tally l.work l.first (l.first + 1) 0;
+    }
 
--- the places or the order number go on
-abbrev pub decreases-loop-p : goal.decreases-loop-p
-decreases-loop-p g l = (l.self.count - l.p) * 2 ^ 20 + (l.self.count + 1 - l.q) * 2 ^ 6 + (24 - l.o)
+abbrev pub invariant-loop-second : goal.invariant-loop-second
+invariant-loop-second g l =
+    record {
+      same : l.self ≡ l.fn.self;
+      walk : Walk g.P.Product.meaning (g.C.Criterion.keeps l.criterion) l.budget l.fn.self l.fn.tally l.fn.work l.tally l.work l.first l.second 0;
+    }
+
+abbrev pub invariant-loop-number : goal.invariant-loop-number
+invariant-loop-number g l =
+    record {
+      same : l.self ≡ l.fn.self;
+      walk : Walk g.P.Product.meaning (g.C.Criterion.keeps l.criterion) l.budget l.fn.self l.fn.tally l.fn.work l.tally l.work l.first l.second l.number;
+    }

@@ -15,8 +15,7 @@ returns-in-Enter g c =
       reply = by_enter g.P.Product.meaning g.C.Criterion.keeps c.args.list.now (held_of c.args.self.now) (length c.args.work.now) c.args.request.now (entry_answer c.enter.result) c.enter.new.self c.in-Enter.p c.in-Enter.is done.reply;
       call = sym (ap call_asked c.in-Enter.is);
       work = λ _. search rules;
-      size = done.size;
-      lender = done.lender;
+      loan = done.loan;
     }
 
 pub returns-in-EnterAll : goal.returns-in-EnterAll
@@ -26,8 +25,7 @@ returns-in-EnterAll g c =
       reply = by_enter_all g.P.Product.meaning g.C.Criterion.keeps c.args.list.now (held_of c.args.self.now) (length c.args.work.now) c.args.request.now (entry_answer c.enter_all.result) c.enter_all.new.self c.in-EnterAll.from c.in-EnterAll.to c.in-EnterAll.is (subst (λ ps. Replied (admitted g.P.Product.meaning (held_of c.args.self.now) ps) (entry_answer c.enter_all.result) c.enter_all.new.self) c.part.ensures done.reply);
       call = sym (ap call_asked c.in-EnterAll.is);
       work = λ _. search rules;
-      size = done.size;
-      lender = done.lender;
+      loan = done.loan;
     }
 
 pub returns-in-Link : goal.returns-in-Link
@@ -35,11 +33,10 @@ returns-in-Link g c =
     let done = c.link.ensures in
     let at = c.in-Link in
     record {
-      reply = by_link g.P.Product.meaning g.C.Criterion.keeps c.args.list.now (held_of c.args.self.now) (length c.args.work.now) c.args.request.now (link_answer c.link.result) c.link.new.self at.criterion at.first at.second at.order at.is done.reply;
+      reply = by_link g.P.Product.meaning g.C.Criterion.keeps c.args.list.now (held_of c.args.self.now) (length c.args.work.now) c.args.request.now (link_answer c.link.result) c.link.new.self at.criterion at.first at.second at.order at.is done.call.reply;
       call = sym (ap call_asked c.in-Link.is);
       work = λ u. done.work u;
-      size = done.size;
-      lender = done.lender;
+      loan = done.call.loan;
     }
 
 pub returns-in-Run : goal.returns-in-Run
@@ -47,9 +44,8 @@ returns-in-Run g c =
     let done = c.run.ensures in
     let at = c.in-Run in
     record {
-      reply = by_run g.P.Product.meaning g.C.Criterion.keeps c.args.list.now (held_of c.args.self.now) (length c.args.work.now) c.args.request.now (run_answer c.run.result) c.run.new.self at.criterion at.budget at.is done.reply;
+      reply = by_run g.P.Product.meaning g.C.Criterion.keeps c.args.list.now (held_of c.args.self.now) (length c.args.work.now) c.args.request.now (run_answer c.run.result) c.run.new.self at.criterion at.budget at.is done.call.reply;
       call = sym (ap call_asked c.in-Run.is);
       work = λ u. done.work u;
-      size = done.size;
-      lender = done.lender;
+      loan = done.call.loan;
     }

@@ -1,23 +1,31 @@
-use Rattle.std.proofs.Common.{sym, ap, ◌∙◌}
-use Rattle.reader.specs.Reading.{at_end}
-use Rattle.reader.proofs.JudgedLaws.{judged_done, judged_broken, turned_ok, turned_err}
+use Rattle.std.proofs.Common.{◌≡◌, Some, None, Err, rules, subst}
+use Rattle.reader.specs.Turns.{Moved}
+use Rattle.reader.proofs.JudgedLaws.{turned_done, turned_broken, turned_ok, turned_err}
 use Rattle.reader.proofs.turn.Reader.turn.Goals as goal
 
-pub returns-in-Done : goal.returns-in-Done
-returns-in-Done c =
-    let m = c.in-Done.ensures in
-    judged_done _ _ _ _ m.0 ∙ ap (λ s. at_end s c.args.line) (sym m.1.2) ∙ sym c.finish.ensures
+pub returns-in-None : goal.returns-in-None
+returns-in-None c = turned_done c.args.self.now c.next.new.self _ c.in-None.ensures.0 c.in-None.ensures.1 c.finish.ensures
 
-pub returns-in-Broken : goal.returns-in-Broken
-returns-in-Broken c = judged_broken _ _ _ _ _ c.in-Broken.ensures.0 ∙ sym c.refuse.ensures
+pub returns-in_err-line-in-Some : goal.returns-in_err-line-in-Some
+returns-in_err-line-in-Some c =
+    let h = subst (λ l. Moved c.args.self.now c.next.new.self (Some l)) c.in_err-line-in-Some.was c.in-Some.ensures in
+    let is : c.from_residual.result ≡ Err c.in_err-line-in-Some.field-0.0 = search rules in
+    turned_broken c.args.self.now c.next.new.self _ _ _ h.0 h.1 is
 
-pub returns-in-Ok : goal.returns-in-Ok
-returns-in-Ok c =
-    let m = c.in-Line.ensures in
-    let s = c.in-Ok.ensures in
-    turned_ok c.args.self.now c.next.new.self c.step.new.self _ _ _ _ m.0 m.1 m.2 m.3 s.answer s.place s.places s.text c.taken.ensures
+pub returns-in_err-step-in-Some : goal.returns-in_err-step-in-Some
+returns-in_err-step-in-Some c =
+    let h = subst (λ l. Moved c.args.self.now c.next.new.self (Some l)) c.in_ok-line-in-Some.was c.in-Some.ensures in
+    let is : c.from_residual-in_err-step-in-Some.result ≡ Err c.in_err-step-in-Some.field-0.0 = search rules in
+    turned_err c.args.self.now c.next.new.self c.step.new.self _ _ _ h.0 h.1 c.in_err-step-in-Some.ensures.answer is
 
-pub returns-in-Err : goal.returns-in-Err
-returns-in-Err c =
-    let m = c.in-Line.ensures in
-    turned_err c.args.self.now c.next.new.self c.step.new.self _ _ _ m.0 m.1 c.in-Err.ensures.answer ∙ sym c.refuse-in-Err.ensures
+pub returns-in-None-2 : goal.returns-in-None-2
+returns-in-None-2 c =
+    let h = subst (λ l. Moved c.args.self.now c.next.new.self (Some l)) c.in_ok-line-in-Some.was c.in-Some.ensures in
+    let s = c.in_ok-step-in-Some.ensures in
+    turned_ok c.args.self.now c.next.new.self c.step.new.self _ _ None c.in-None-2.is h.0 h.1 h.2 s.answer s.places s.rest
+
+pub returns-in-Some-2 : goal.returns-in-Some-2
+returns-in-Some-2 c =
+    let h = subst (λ l. Moved c.args.self.now c.next.new.self (Some l)) c.in_ok-line-in-Some.was c.in-Some.ensures in
+    let s = c.in_ok-step-in-Some.ensures in
+    turned_ok c.args.self.now c.next.new.self c.step.new.self _ _ (Some c.in-Some-2.product) c.in-Some-2.is h.0 h.1 h.2 s.answer s.places s.rest

@@ -1,6 +1,0 @@
-use Rattle.std.proofs.Common.{sym}
-use Rattle.cube.specs.MakingLaws.{made_is}
-use Rattle.cube.proofs.make.assembled.Goals as goal
-
-pub returns : goal.returns
-returns c = sym (made_is _)
