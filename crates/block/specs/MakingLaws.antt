@@ -1,10 +1,11 @@
 -- A block product is what its bytes say, and any byte of it may be replaced by one that is not 0.
 -- Assumes nothing.
-use Rattle.std.specs.Prelude.{◌≡◌, ℕ, zero, suc, ◌<◌, Bool, true, false, not, ◌&&◌, ◌||◌, List, [], ◌∷◌, length, ◌==◌, nat_lt, slice_index, slice_set, refl}
+use Rattle.std.specs.Prelude.{◌≡◌, ℕ, zero, suc, ◌<◌, ◌≤◌, Bool, true, false, not, ◌&&◌, ◌||◌, List, [], ◌∷◌, length, ◌==◌, nat_lt, slice_index, slice_set, refl}
 use Rattle.std.proofs.Common.{ap, ap₂, ◌∙◌, arith, length-set}
 use Rattle.std.specs.List.{list_any}
 use mathlib.Core.HLevel.{is_prop→PathP}
 use Rattle.std.proofs.Math.Bool.{Bool-set}
+use Rattle.std.proofs.Math.ListN.{get_or-eq_default}
 use Rattle.std.proofs.lemmas.Bool.{eqb-true, eq-eqb, ltb-true, lt-ltb, and_parts, and_from, and_right, false≢true}
 use Rattle.std.proofs.lemmas.Bool.Decides.{nat_tests}
 use Rattle.block.specs.Bytes.{nonzero, sound}
@@ -35,6 +36,9 @@ sound_length bs h = eqb-true (length bs) 8 (and_parts _ _ h).0
 
 pub bytes_length : (a : BlockProduct) → length a.bytes ≡ 8
 bytes_length a = sound_length a.bytes a.eight
+
+pub value_past : (a : BlockProduct) (g : ℕ) → 8 ≤ g → value a g ≡ 0
+value_past a g h = let l = bytes_length a in get_or-eq_default a.bytes 0 (omega arith)
 
 nonzero_set : (bs : List ℕ) (g b : ℕ) → nonzero bs ≡ true → 0 < b → nonzero (slice_set bs g b) ≡ true
 nonzero_set [] g b h p = refl

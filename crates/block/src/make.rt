@@ -34,7 +34,8 @@ impl BlockProduct {
         self.bytes.get(g).copied().unwrap_or(0)
     }
 
-    // The product with byte g replaced.
+    // The product with byte g replaced. The bound of the index, here and in two more private functions, is no type of
+    // its own: the functions of a kind take any number.
     #[tactic(auto, using(crate::specs::MakingLaws::sound_set))]
     pub(crate) fn replaced(self, g: usize, byte: u8) -> BlockProduct
         requires position { g < 8 }

@@ -48,8 +48,8 @@ fn keeps_inputs(cube: &Cube) -> bool
     (24..32).all(|i| cube.form(i) == Form::Absent)
 }
 
-// The product of the eight truth tables, of which none is 0. It is the answer where the cube has no input from 24 on and
-// drives output 0 alone.
+// The product of the eight truth tables, of which none is 0. It is the answer where the cube has no input from 24 on
+// and drives output 0 alone.
 #[tactic(auto, using(crate::proofs::PackingLaws::bytes_sound, crate::proofs::PackingLaws::same_covering))]
 fn packed_same(cube: &Cube) -> BlockProduct
     requires inputs { keeps_inputs cube.now ≡ true }

@@ -19,7 +19,8 @@ fn passes(byte: u8, point: u64, g: usize) -> bool
 }
 
 impl BlockProduct {
-    // What the product comes to as a sum of cubes: one cube of each byte's, in every way.
+    // What the product comes to as a sum of cubes: one cube of each byte's, in every way. It is apart from `weight`, so
+    // that a wrong weight is found there.
     fn cubes(self) -> u32
         ensures { result ≡ weight_of self.bytes }
     {

@@ -30,10 +30,19 @@ fn looked_up(byte: u8) -> u8
     SIZES[byte as usize]
 }
 
+// The size of the byte, which is the fewest. It is apart from `size`, so that a size of another byte is found there, and
+// not in the proof that this is the fewest.
+fn fewest_of(byte: u8) -> u8
+    ensures exact { result ≡ size_of byte }
+    ensures fewest { Fewest byte result }
+{
+    looked_up(byte)
+}
+
 // The fewest cubes of three inputs whose exclusive or is the byte.
 pub fn size(byte: u8) -> u8
     ensures exact { result ≡ size_of byte }
     ensures fewest { Fewest byte result }
 {
-    looked_up(byte)
+    fewest_of(byte)
 }

@@ -115,7 +115,8 @@ impl<'a, P: Product> Cover<'a, P, MOST> {
         Ok(())
     }
 
-    // Enters `p`, and answers the new count. Not by the call below: a slice of one owes that a product of the kind fits in memory.
+    // Enters `p`, and answers the new count. Not by the call below: a slice of one owes that a product of the kind fits
+    // in memory, which stays open.
     pub fn enter(&mut self, p: P) -> Result<usize, EnterRefusal>
         ensures { Called (admitted P.meaning (held_of self.old) (p ∷ [])) (entry_answer result) result self.old self.new }
     {

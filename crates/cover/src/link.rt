@@ -69,7 +69,8 @@ impl<'a, P: Product> Cover<'a, P, MOST> {
         Ok(group)
     }
 
-    // Links the products at two places by an order number, and answers the new count.
+    // Links the products at two places by an order number, and answers the new count. As one value the three numbers
+    // are a request, which `serve` takes.
     pub fn link<C: Criterion>(
         &mut self,
         criterion: &C,

@@ -7,7 +7,8 @@ pub const MOST: usize = 960;
 // A group is tried in a list of its own, which holds up to two products more than the cover.
 pub const WORK: usize = MOST + 2;
 
-// The first `count` of the places lent hold the products, at most `N`; the others are free.
+// The first `count` of the places hold the products, at most `N`; the others are free. The places are lent, so a cover
+// has as many as its caller has, and not as many as it holds.
 #[derive(Drop)]
 pub struct Cover<'a, P, const N: usize> {
     pub(crate) places: &'a mut [P],

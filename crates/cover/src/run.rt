@@ -1,5 +1,5 @@
 // Runs: the groups of a cover are tried in turn, and after a kept link those of the new cover, from the first.
-ghost use Rattle.std.specs.Prelude.{◌≡◌, ◌+◌, ◌≤◌, length};
+ghost use Rattle.std.specs.Prelude.{◌≡◌, ◌+◌, length};
 ghost use Rattle.esop.specs.Running.{run};
 ghost use Rattle.esop.specs.History.{reported, ran_by};
 ghost use Rattle.cover.specs.Holding.{used, held_of, IsEnough};
@@ -40,8 +40,8 @@ impl<'a, P: Product> Cover<'a, P, MOST> {
         self.count + 2
     }
 
-    // Question 6: does the work memory have at least two places more than are in use? It is a yes or no, since a link and a
-    // run refuse by types of their own.
+    // Question 6: does the work memory have at least two places more than are in use? It is a yes or no, since a link
+    // and a run refuse by types of their own.
     pub(crate) fn has_work(&self, work: usize) -> bool
         ensures { Supplied P.meaning self.now work result }
     {

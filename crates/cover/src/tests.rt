@@ -1,5 +1,5 @@
-// The least kind and the least criterion, on a cover and by requests. They stand in the tests of `esop` too: no crate can use another's tests, and as
-// public types of `esop` they would be a kind and a criterion that no caller wants.
+// The least kind and the least criterion, on a cover and by requests. They stand in the tests of `esop` too: no crate
+// can use another's tests, and as public types of `esop` they would be a kind and a criterion that no caller wants.
 ghost use Rattle.std.specs.Prelude.{false};
 ghost use Rattle.std.proofs.Common.{rules};
 

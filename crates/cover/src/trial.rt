@@ -56,7 +56,8 @@ fn weigh<P: Product>(products: &[P]) -> u64
         .sum()
 }
 
-// Whether a number is the order number of a group of a pair at a distance.
+// Whether a number is the order number of a group of a pair at a distance. It is apart from its only use, so that a
+// wrong bound is found here.
 pub(crate) fn is_order(number: usize, distance: usize) -> bool
     ensures { result ≡ nat_lt number (if spans distance then orders_of distance else 0) }
 {

@@ -37,8 +37,3 @@ module _ {P : Type 0} (m : Meaning P) where
   -- what was found is a place of the list, and near
   pub seek_found : (p : P) (c : List P) (i : ℕ) → seek m p c ≡ Some i → Near p c i
   seek_found p c i e = subst (Seen p c) e (seen p c)
-
-  -- a place that is found at i, where the search began at i
-  abbrev pub later : ℕ → Option ℕ → Option ℕ
-  later i None = None
-  later i (Some k) = Some (i + k)

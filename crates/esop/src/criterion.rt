@@ -3,7 +3,8 @@ ghost use Rattle.std.specs.Prelude.{◌≡◌};
 ghost use Rattle.esop.specs.Criterion.{Test, Strict, reduce, refine};
 ghost use Rattle.esop.specs.CriterionLaws.{reduce_strict, refine_strict};
 
-// How many products a cover has, and what they weigh together. Of two sizes the lower has fewer products, or as many that weigh less.
+// How many products a cover has, and what they weigh together. Of two sizes the lower has fewer products, or as many
+// that weigh less.
 #[derive(Clone, Copy, PartialEq, Eq, PartialOrd, Ord, Debug)]
 pub struct Size {
     pub count: usize,

@@ -29,8 +29,8 @@ pub trait Product: Copy {
     fn covers(self, point: u64) -> bool
         ensures { result ≡ meaning.covers self point };
 
-    // At how many positions the two differ. A loop in place of a chain of iterators, here and below: what a chain in a trait
-    // answers has to be shown by a lemma, and then a wrong answer is found in the proof and not at this line.
+    // At how many positions the two differ. A loop in place of a chain of iterators, here and below: what a chain in a
+    // trait answers has to be shown by a lemma, and then a wrong answer is found in the proof and not at this line.
     fn distance(self, other: Self) -> usize
         ensures { result ≡ distance meaning self other }
     {

@@ -1,4 +1,5 @@
-// The least kind and the least criterion, which show that a new one of either asks for nothing else in this crate.
+// The least kind and the least criterion, which show that a new one of either asks for nothing else in this crate. The
+// tests of `cover` have the same two, since no crate can use another's tests.
 ghost use Rattle.std.specs.Prelude.{false};
 ghost use Rattle.std.proofs.Common.{rules};
 

@@ -43,18 +43,19 @@ fn play(
     work: &mut [Cube],
 ) -> io::Result<()> {
     let mut answers = [Answer::Entered(Ok(0)); 4];
-    if let Ok(count) = serve(places, list, requests, work, &mut answers) {
-        for answer in answers.iter().take(requests.len()) {
-            print_answer(rt, answer)?;
-        }
-        for product in places.iter().take(count) {
-            let row = Row {
-                cube: *product,
-                inputs: 5,
-                outputs: 1,
-            };
-            println!(rt; "{row}")?;
-        }
+    let Ok(count) = serve(places, list, requests, work, &mut answers) else {
+        return println!(rt; "more requests than places for answers");
+    };
+    for answer in answers.iter().take(requests.len()) {
+        print_answer(rt, answer)?;
+    }
+    for product in places.iter().take(count) {
+        let row = Row {
+            cube: *product,
+            inputs: 5,
+            outputs: 1,
+        };
+        println!(rt; "{row}")?;
     }
     Ok(())
 }

@@ -19,7 +19,8 @@ pub(crate) fn cube(row: &str, outputs: u32) -> Cube {
         .fold(blank, |cube, (i, char)| cube.with_form(i, form(char)))
 }
 
-// The row of a cube with so many inputs and outputs.
+// The row of a cube with so many inputs and outputs. Its characters are those of a sheet, which writes them into memory
+// and displays nothing.
 #[derive(Clone, Copy)]
 pub(crate) struct Row {
     pub(crate) cube: Cube,

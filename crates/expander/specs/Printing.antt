@@ -1,11 +1,11 @@
 -- What is printed for an input: the sheet of the table that its line spells, or the line of a refusal.
-use Rattle.std.specs.Prelude.{◌≡◌, ℕ, ◌-◌, ◌≤◌, max, cond, ◌&&◌, List, map, length, take, Some, None, Ok, Err, Option, Result, ◌==◌, bit_xor, nat_lt, slice_index}
+use Rattle.std.specs.Prelude.{ℕ, ◌-◌, max, cond, ◌&&◌, List, map, length, take, Some, None, Ok, Err, Option, Result, ◌==◌, bit_xor, nat_lt, slice_index}
 use Rattle.cube.specs.declared.cube.Cube.{Cube}
 use Rattle.expansion.specs.Tables.{inputs_of}
 use Rattle.expansion.specs.Answers.{expansion_of}
 use Rattle.expansion.specs.declared.refusal.ExpandRefusal.{ExpandRefusal}
 use Rattle.sheet.specs.Text.{sheet_text}
-use Rattle.sheet.specs.Writing.{sheet_refusal, written}
+use Rattle.sheet.specs.Writing.{sheet_refusal}
 use Rattle.sheet.specs.Refusing.{printed_by}
 use Rattle.expander.specs.Refusals.{number}
 use Rattle.expander.specs.declared.refusal.PrintRefusal.{PrintRefusal}

@@ -4,10 +4,7 @@ use crate::print_expansion;
 // Whether printing for the input answers just this text, in a memory of 48 bytes.
 fn prints(input: &[u8], expected: &[u8]) -> bool {
     let mut text = [0u8; 48];
-    match print_expansion(input, &mut text) {
-        Some(len) => len <= 48 && &text[0..len] == expected,
-        None => false,
-    }
+    print_expansion(input, &mut text).is_some_and(|len| len <= 48 && &text[..len] == expected)
 }
 
 #[test]

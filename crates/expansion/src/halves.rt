@@ -1,5 +1,5 @@
 // The two halves of a table, and their exclusive or in the place of the upper one.
-ghost use Rattle.std.specs.Prelude.{◌≡◌, ◌+◌, ◌/◌, length};
+ghost use Rattle.std.specs.Prelude.{◌≡◌, ◌+◌, length};
 ghost use Rattle.expansion.specs.Tables.{mixed, turned};
 
 use crate::split::Split;

@@ -1,5 +1,4 @@
 // Why a table was not expanded.
-ghost use Rattle.std.specs.Prelude.{◌≡◌};
 ghost use Rattle.expansion.specs.Refusals;
 
 use esop::refusal::Refusal;

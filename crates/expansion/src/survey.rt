@@ -6,7 +6,8 @@ ghost use Rattle.expansion.specs.Expansions.{needed, split_at};
 use crate::halves::fold;
 use crate::split::{Choice, choose};
 
-// How a table of k inputs is split, and how many products it needs. The table is given back byte for byte.
+// How a table of k inputs is split, and how many products it needs. The table is given back byte for byte. Its length
+// tells k too, but k is what counting and emitting go down by.
 #[tactic(auto, using(crate::proofs::SplitLaws::needed_leaf))]
 pub(crate) fn survey(table: &mut [u8], k: u32) -> Choice
     requires { HasInputs k table.old }

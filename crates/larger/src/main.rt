@@ -25,8 +25,8 @@ const SHEETS: [&str; 14] = [
     "xor5.esop",
 ];
 
-// Prints the printout of one sheet, or the line of its refusal. The program `minimize` has the same three lines for its
-// input: all that is shared by contract is in the call between them.
+// Prints the printout of one sheet, or the line of its refusal. The program `minimize` has the same lines for its
+// input: what an input holds is beyond any contract, so no public call but `fill` reads one.
 fn print_sheet(rt: &HostRuntime, name: &str) -> io::Result<()> {
     // One byte more than a text may have, so that a text that is too long is seen to be.
     let mut text = [0u8; 64_001];

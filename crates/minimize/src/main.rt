@@ -8,7 +8,8 @@ use std::io;
 use std::io::Write;
 
 fn main(rt: HostRuntime) -> io::Result<()> {
-    // One byte more than a text may have, so that a text that is too long is seen to be.
+    // One byte more than a text may have, so that a text that is too long is seen to be. The program `larger` has the
+    // same lines for files.
     let mut text = [0u8; 64_001];
     let have = fill(&mut rt.stdin(), &mut text)?;
     if let Some(len) = print_minimized(&mut text, have) {

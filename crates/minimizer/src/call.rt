@@ -46,7 +46,7 @@ fn print_sheet(text: &mut [u8], len: usize) -> Result<usize, PrintRefusal>
 
 // Takes the first `len` bytes of the memory for the text of a sheet, and writes what is printed for it to the memory's
 // start: the printout of the shrunk sheet, or the line of a refusal. It answers the number of bytes; where the memory
-// is too short even for the line, nothing is written.
+// is too short even for the line, nothing is written. One memory serves for both, so the length of the text is told.
 pub fn print_minimized(text: &mut [u8], len: usize) -> Option<usize>
     ensures answer { result ≡ length_within text.old (printed text.old len) }
     ensures text { text.new ≡ kept_within text.old (printed text.old len) }

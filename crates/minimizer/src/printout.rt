@@ -37,7 +37,7 @@ fn put_printout(
 }
 
 // Writes the lines of two runs and the sheet of the products that they left from the start of the memory, and answers
-// the number of bytes.
+// the number of bytes. What is printed comes piece by piece, as the calls before it answer it.
 pub fn write_printout(
     memory: &mut [u8],
     inputs: u32,

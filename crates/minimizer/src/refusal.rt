@@ -47,6 +47,7 @@ impl Refusal for MinimizeRefusal {
     }
 }
 
+// One type for every program, with the program's own refusals as a parameter, would have two `From`s that overlap.
 #[derive(Clone, Copy, PartialEq, Eq, Debug)]
 pub enum PrintRefusal {
     // no sheet was shrunk

@@ -51,10 +51,10 @@ fn shrink_rows(
     }
 }
 
-// The memories are lent each by itself, as their callers have them.
 // Reads a text into the list, enters its rows into a cover on the places, and runs Reduce and then Refine over it. It
 // answers the numbers of the heading, the count of the products that are left, which are the first of the places, and
-// the two runs. All is asked before anything is stored: a refusal leaves all memory as it was.
+// the two runs. All is asked before anything is stored: a refusal leaves all memory as it was. Each memory is lent by
+// itself, as callers have it.
 pub fn minimize(
     text: &[u8],
     places: &mut [Cube],

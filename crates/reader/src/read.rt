@@ -14,7 +14,8 @@ fn judge(text: &[u8], places: usize) -> Result<Heading, Refused>
     ensures { result ≡ told (verdict places text.now) }
 {
     let mut reader = Reader::new(text, places);
-    // Counted by hand: only a refusal tells its line, and the reader that hands out the lines is not an iterator of them.
+    // Counted by hand, in each arm by itself: a line is told with its refusal alone, and `turn` is no iterator, since
+    // it takes a line only where it is due.
     let mut line = 1;
     loop {
         match reader.turn().map_err(|why| Refused { why, line })? {
@@ -32,6 +33,7 @@ fn store(text: &[u8], list: &mut [Cube])
     ensures { list.new ≡ stored list.old (read (length list.old) text.now) }
 {
     let mut reader = Reader::new(text, list.len());
+    // Counted by hand: not every line has a product.
     let mut row = 0;
     while let Ok(turn) = reader.turn() {
         match turn {

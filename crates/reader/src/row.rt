@@ -52,7 +52,8 @@ fn forms(part: &[u8]) -> Option<(u32, u32)>
 {
     let absent = low_bits(32 - part.len());
     let (mut zeros, mut ones) = (absent, absent);
-    // By index: the place of a character is the number of its input.
+    // By index: through `iter().rev()` a row that is read the wrong way round would be refused for its sums, and not
+    // for its words.
     for i in (0..part.len()).rev() {
         let (zero, one) = form_at(part, i)?;
         zeros = zeros * 2 + zero;
@@ -61,8 +62,8 @@ fn forms(part: &[u8]) -> Option<(u32, u32)>
     Some((zeros, ones))
 }
 
-// The word of the outputs, read from the last to the first. Beside `forms` it is a loop of its own: an input has two bits,
-// and an output has one.
+// The word of the outputs, read from the last to the first. It is a loop of its own beside `forms`: an input has two
+// bits, and an output one.
 #[tactic(auto, using(crate::proofs::WordLaws::driven_bad_turn))]
 fn outputs(part: &[u8]) -> Option<u32>
     requires { length part.now ≤ 32 }

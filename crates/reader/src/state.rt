@@ -42,7 +42,8 @@ pub enum ReadRefusal {
     FewPlaces,
 }
 
-// A refusal with the line that it is about, counted from 1; 0 is the whole text, and is printed so.
+// A refusal with the line that it is about, counted from 1; 0 is the whole text. It is printed like a line, so an
+// `Option` would be turned back into that 0.
 #[derive(Clone, Copy, PartialEq, Eq, Debug)]
 pub struct Refused {
     pub why: ReadRefusal,

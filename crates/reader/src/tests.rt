@@ -1,7 +1,7 @@
 // Each refusal once, and what an accepted text leaves in the list.
 use crate::read::read_sheet;
 use crate::state::Heading;
-use cube::{Cube, CubeRefusal, Form};
+use cube::{Cube, Form};
 use esop::refusal::Refusal;
 use std::test::Fail;
 

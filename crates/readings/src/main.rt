@@ -18,122 +18,100 @@ fn answer(rt: &HostRuntime, text: &[u8]) -> io::Result<()> {
 }
 
 // Accepted texts, and texts that end wrongly.
-fn whole(rt: &HostRuntime) -> io::Result<()> {
-    answer(rt, b".i 2\n.o 1\n.type esop\n.p 2\n11 1\n00 1\n.e\n")?;
-    answer(rt, b"")?;
-    answer(
-        rt,
-        b"# head\n\n.i 2\n# a\n.o 1\n\n.type esop\n.p 1\n#row\n1- 1\n\n.e\n",
-    )?;
-    answer(rt, b".i 2\n.o 1\n.type esop\n.p 2\n11 1\n00 1\n.e")?;
-    answer(rt, b".i 2\n#")?;
-    answer(rt, b".i 2\n.o 1\n.type esop\n.p 2\n11 1\n00 1\n.e\n\n")?;
-    answer(rt, b".i 2\n.o 1\n.type esop\n.p 2\n11 1\n00 1\n.e\n# x\n")?;
-    answer(rt, b".i 2\n.o 1\n.type esop\n.p 2\n11 1\n00 1\n")?;
-    Ok(())
-}
+const WHOLE: [&str; 8] = [
+    ".i 2\n.o 1\n.type esop\n.p 2\n11 1\n00 1\n.e\n",
+    "",
+    "# head\n\n.i 2\n# a\n.o 1\n\n.type esop\n.p 1\n#row\n1- 1\n\n.e\n",
+    ".i 2\n.o 1\n.type esop\n.p 2\n11 1\n00 1\n.e",
+    ".i 2\n#",
+    ".i 2\n.o 1\n.type esop\n.p 2\n11 1\n00 1\n.e\n\n",
+    ".i 2\n.o 1\n.type esop\n.p 2\n11 1\n00 1\n.e\n# x\n",
+    ".i 2\n.o 1\n.type esop\n.p 2\n11 1\n00 1\n",
+];
 
 // Lines of the heading.
-fn heading(rt: &HostRuntime) -> io::Result<()> {
-    answer(rt, b".o 1\n")?;
-    answer(rt, b"11 1\n")?;
-    answer(rt, b".i 0\n")?;
-    answer(rt, b".i 33\n")?;
-    answer(rt, b".i 02\n")?;
-    answer(rt, b".i  2\n")?;
-    answer(rt, b".i2\n")?;
-    answer(rt, b".inputs 2\n")?;
-    answer(rt, b".i 2 \n")?;
-    answer(rt, b".i 2\r\n")?;
-    answer(rt, b".i 2\n.o 33\n")?;
-    answer(rt, b".i 2\n.o 1\n.type f\n")?;
-    answer(rt, b".i 2\n.o 1\n.type esop \n")?;
-    answer(rt, b".i 2\n.o 1\n.type esop\n.p 961\n")?;
-    answer(rt, b".i 2\n.o 1\n.type esop\n.p 0\n.e\n")?;
-    Ok(())
-}
+const HEADING: [&str; 15] = [
+    ".o 1\n",
+    "11 1\n",
+    ".i 0\n",
+    ".i 33\n",
+    ".i 02\n",
+    ".i  2\n",
+    ".i2\n",
+    ".inputs 2\n",
+    ".i 2 \n",
+    ".i 2\r\n",
+    ".i 2\n.o 33\n",
+    ".i 2\n.o 1\n.type f\n",
+    ".i 2\n.o 1\n.type esop \n",
+    ".i 2\n.o 1\n.type esop\n.p 961\n",
+    ".i 2\n.o 1\n.type esop\n.p 0\n.e\n",
+];
 
 // Rows, the end, and a number of many digits.
-fn rows(rt: &HostRuntime) -> io::Result<()> {
-    answer(rt, b".i 2\n.o 1\n.type esop\n.p 1\n11 1\n00 1\n.e\n")?;
-    answer(rt, b".i 2\n.o 1\n.type esop\n.p 1\n11 1\nxx\n.e\n")?;
-    answer(rt, b".i 2\n.o 1\n.type esop\n.p 2\n11 1\n.e\n")?;
-    answer(rt, b".i 2\n.o 1\n.type esop\n.p 1\n.end\n")?;
-    answer(rt, b".i 2\n.o 1\n.type esop\n.p 0\n.e \n")?;
-    answer(rt, b".i 2\n.o 1\n.type esop\n.p 1\n111 1\n.e\n")?;
-    answer(rt, b".i 2\n.o 1\n.type esop\n.p 1\n1 1\n.e\n")?;
-    answer(rt, b".i 2\n.o 1\n.type esop\n.p 1\n12 1\n.e\n")?;
-    answer(rt, b".i 2\n.o 1\n.type esop\n.p 1\n11 -\n.e\n")?;
-    answer(rt, b".i 2\n.o 1\n.type esop\n.p 1\n11 0\n.e\n")?;
-    answer(rt, b".i 18446744073709551618\n")?;
-    Ok(())
-}
+const ROWS: [&str; 11] = [
+    ".i 2\n.o 1\n.type esop\n.p 1\n11 1\n00 1\n.e\n",
+    ".i 2\n.o 1\n.type esop\n.p 1\n11 1\nxx\n.e\n",
+    ".i 2\n.o 1\n.type esop\n.p 2\n11 1\n.e\n",
+    ".i 2\n.o 1\n.type esop\n.p 1\n.end\n",
+    ".i 2\n.o 1\n.type esop\n.p 0\n.e \n",
+    ".i 2\n.o 1\n.type esop\n.p 1\n111 1\n.e\n",
+    ".i 2\n.o 1\n.type esop\n.p 1\n1 1\n.e\n",
+    ".i 2\n.o 1\n.type esop\n.p 1\n12 1\n.e\n",
+    ".i 2\n.o 1\n.type esop\n.p 1\n11 -\n.e\n",
+    ".i 2\n.o 1\n.type esop\n.p 1\n11 0\n.e\n",
+    ".i 18446744073709551618\n",
+];
 
 // Rules that meet in one line.
-fn more(rt: &HostRuntime) -> io::Result<()> {
-    answer(rt, b".i\n")?;
-    answer(rt, b".i 2\n.o 1\n.type esop\n.p 0\n11 1\n")?;
-    answer(rt, b".i 2\n.o 1\n.type esop\n.type esop\n")?;
-    answer(rt, b".i 2\n.o 1\n.type esop\n.p 1\n.\n")?;
-    answer(rt, b".i 1\n.o 2\n.type esop\n.p 1\n1 -1\n")?;
-    answer(rt, b".i 1\n.o 2\n.type esop\n.p 1\n1  1\n")?;
-    answer(rt, b".i 1\n.o 2\n.type esop\n.p 01\n")?;
-    answer(rt, b".i 1\n.o 1\n.type esop\n.p 960\n")?;
-    answer(rt, b".e\n")?;
-    answer(rt, b".i 2\n.o 1\n.type esop\n.p 1\n11 1\n.i 2\n")?;
-    answer(rt, b"\n")?;
-    answer(rt, b".i 2\n.o 1\n.type esop\n.p 1\n")?;
+const MORE: [&str; 12] = [
+    ".i\n",
+    ".i 2\n.o 1\n.type esop\n.p 0\n11 1\n",
+    ".i 2\n.o 1\n.type esop\n.type esop\n",
+    ".i 2\n.o 1\n.type esop\n.p 1\n.\n",
+    ".i 1\n.o 2\n.type esop\n.p 1\n1 -1\n",
+    ".i 1\n.o 2\n.type esop\n.p 1\n1  1\n",
+    ".i 1\n.o 2\n.type esop\n.p 01\n",
+    ".i 1\n.o 1\n.type esop\n.p 960\n",
+    ".e\n",
+    ".i 2\n.o 1\n.type esop\n.p 1\n11 1\n.i 2\n",
+    "\n",
+    ".i 2\n.o 1\n.type esop\n.p 1\n",
+];
+
+// A byte in each kind of line, where a text has a question mark.
+const EVERYWHERE: [&str; 12] = [
+    "#?\n.i 2\n.o 1\n.type esop\n.p 1\n11 1\n.e\n",
+    "?\n.i 2\n.o 1\n.type esop\n.p 1\n",
+    ".i 2?\n",
+    ".i 2\n.o?1\n",
+    ".i 2\n.o 1\n.type esop?\n",
+    ".i 2\n.o 1\n.type esop\n.p 1?\n",
+    ".i 2\n.o 1\n.type esop\n.p 1\n1? 1\n",
+    ".i 2\n.o 1\n.type esop\n.p 1\n11 ?\n",
+    ".i 2\n.o 1\n.type esop\n.p 1\n11?1\n",
+    ".i 2\n.o 1\n.type esop\n.p 1\n11 1\n.e?\n",
+    ".i 2\n.o 1\n.type esop\n.p 1\n11 1\n.e\n?\n",
+    ".i 2\n.o 1\n.type esop\n.p 1\n11 1\n.e\n?",
+];
+
+// What is answered for each of the texts.
+fn all(rt: &HostRuntime, texts: &[&str]) -> io::Result<()> {
+    for text in texts {
+        answer(rt, text.as_bytes())?;
+    }
     Ok(())
 }
 
-// Byte 0 in each kind of line.
-fn zero(rt: &HostRuntime) -> io::Result<()> {
-    answer(rt, b"#\x00\n.i 2\n.o 1\n.type esop\n.p 1\n11 1\n.e\n")?;
-    answer(rt, b"\x00\n.i 2\n.o 1\n.type esop\n.p 1\n")?;
-    answer(rt, b".i 2\x00\n")?;
-    answer(rt, b".i 2\n.o\x001\n")?;
-    answer(rt, b".i 2\n.o 1\n.type esop\x00\n")?;
-    answer(rt, b".i 2\n.o 1\n.type esop\n.p 1\x00\n")?;
-    answer(rt, b".i 2\n.o 1\n.type esop\n.p 1\n1\x00 1\n")?;
-    answer(rt, b".i 2\n.o 1\n.type esop\n.p 1\n11 \x00\n")?;
-    answer(rt, b".i 2\n.o 1\n.type esop\n.p 1\n11\x001\n")?;
-    answer(rt, b".i 2\n.o 1\n.type esop\n.p 1\n11 1\n.e\x00\n")?;
-    answer(rt, b".i 2\n.o 1\n.type esop\n.p 1\n11 1\n.e\n\x00\n")?;
-    answer(rt, b".i 2\n.o 1\n.type esop\n.p 1\n11 1\n.e\n\x00")?;
-    Ok(())
-}
-
-// Byte 13 in each kind of line.
-fn carriage_return(rt: &HostRuntime) -> io::Result<()> {
-    answer(rt, b"#\r\n.i 2\n.o 1\n.type esop\n.p 1\n11 1\n.e\n")?;
-    answer(rt, b"\r\n.i 2\n.o 1\n.type esop\n.p 1\n")?;
-    answer(rt, b".i 2\r\n")?;
-    answer(rt, b".i 2\n.o\r1\n")?;
-    answer(rt, b".i 2\n.o 1\n.type esop\r\n")?;
-    answer(rt, b".i 2\n.o 1\n.type esop\n.p 1\r\n")?;
-    answer(rt, b".i 2\n.o 1\n.type esop\n.p 1\n1\r 1\n")?;
-    answer(rt, b".i 2\n.o 1\n.type esop\n.p 1\n11 \r\n")?;
-    answer(rt, b".i 2\n.o 1\n.type esop\n.p 1\n11\r1\n")?;
-    answer(rt, b".i 2\n.o 1\n.type esop\n.p 1\n11 1\n.e\r\n")?;
-    answer(rt, b".i 2\n.o 1\n.type esop\n.p 1\n11 1\n.e\n\r\n")?;
-    answer(rt, b".i 2\n.o 1\n.type esop\n.p 1\n11 1\n.e\n\r")?;
-    Ok(())
-}
-
-// Byte 255 in each kind of line.
-fn last_byte(rt: &HostRuntime) -> io::Result<()> {
-    answer(rt, b"#\xff\n.i 2\n.o 1\n.type esop\n.p 1\n11 1\n.e\n")?;
-    answer(rt, b"\xff\n.i 2\n.o 1\n.type esop\n.p 1\n")?;
-    answer(rt, b".i 2\xff\n")?;
-    answer(rt, b".i 2\n.o\xff1\n")?;
-    answer(rt, b".i 2\n.o 1\n.type esop\xff\n")?;
-    answer(rt, b".i 2\n.o 1\n.type esop\n.p 1\xff\n")?;
-    answer(rt, b".i 2\n.o 1\n.type esop\n.p 1\n1\xff 1\n")?;
-    answer(rt, b".i 2\n.o 1\n.type esop\n.p 1\n11 \xff\n")?;
-    answer(rt, b".i 2\n.o 1\n.type esop\n.p 1\n11\xff1\n")?;
-    answer(rt, b".i 2\n.o 1\n.type esop\n.p 1\n11 1\n.e\xff\n")?;
-    answer(rt, b".i 2\n.o 1\n.type esop\n.p 1\n11 1\n.e\n\xff\n")?;
-    answer(rt, b".i 2\n.o 1\n.type esop\n.p 1\n11 1\n.e\n\xff")?;
+// The same with this byte for each question mark.
+fn all_with(rt: &HostRuntime, texts: &[&str], byte: u8) -> io::Result<()> {
+    for text in texts {
+        let mut bytes = Vec::with_capacity(rt.alloc(), text.len())?;
+        for char in text.bytes() {
+            bytes.push(if char == b'?' { byte } else { char })?;
+        }
+        answer(rt, &bytes)?;
+    }
     Ok(())
 }
 
@@ -156,12 +134,12 @@ fn lengths(rt: &HostRuntime) -> io::Result<()> {
 }
 
 fn main(rt: HostRuntime) -> io::Result<()> {
-    whole(&rt)?;
-    heading(&rt)?;
-    rows(&rt)?;
-    more(&rt)?;
-    zero(&rt)?;
-    carriage_return(&rt)?;
-    last_byte(&rt)?;
+    all(&rt, &WHOLE)?;
+    all(&rt, &HEADING)?;
+    all(&rt, &ROWS)?;
+    all(&rt, &MORE)?;
+    for byte in [0, 13, 255] {
+        all_with(&rt, &EVERYWHERE, byte)?;
+    }
     lengths(&rt)
 }

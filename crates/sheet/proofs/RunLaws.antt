@@ -23,7 +23,3 @@ run_length r =
     let h = length-append a t in
     let s = start_length r.strategy in
     omega arith
-
--- a number of one digit
-pub one_digit : (n x : ℕ) → x ≡ 48 + n % 10 → n < 10 → x ∷ [] ≡ decimal n
-one_digit n x e h = let d : x ≡ 48 + n = omega arith in ap (λ k. k ∷ []) d ∙ sym (decimal_digit n h)

@@ -1,5 +1,5 @@
 // The numbers that the heading of a sheet tells, and what follows from them.
-ghost use Rattle.std.specs.Prelude.{◌≡◌, ◌+◌, ◌<◌, ◌≤◌, true, List, length};
+ghost use Rattle.std.specs.Prelude.{◌≡◌, ◌+◌, ◌<◌, true, List, length};
 ghost use Rattle.cube.specs.declared.cube.Cube.{Cube as Product};
 ghost use Rattle.sheet.specs.Text.{heading_text, row_text, sheet_text, keeps_at, keeps_to};
 ghost use Rattle.sheet.specs.Writing.{in_range, all_keep};
@@ -17,7 +17,8 @@ pub struct Heading {
 }
 
 impl Heading {
-    // Whether a sheet may have these numbers.
+    // Whether a sheet may have these numbers. It is asked once by each call; a type for numbers that were asked would
+    // be a second `Heading`, for a few private functions.
     pub(crate) fn in_range(self) -> bool
         ensures { result ≡ in_range self.inputs self.outputs self.rows }
     {
@@ -43,7 +44,7 @@ impl Heading {
     // How long a row is, whichever its product.
     #[tactic(auto, using(crate::proofs::PutLaws::row_length))]
     pub(crate) fn row_len(self) -> usize
-        ensures { (((c : Product) → result ≡ length (row_text self.inputs self.outputs c))) × (result ≡ self.inputs + self.outputs + 2) }
+        ensures { ((c : Product) → result ≡ length (row_text self.inputs self.outputs c)) × (result ≡ self.inputs + self.outputs + 2) }
     {
         self.inputs as usize + self.outputs as usize + 2
     }

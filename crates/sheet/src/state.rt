@@ -8,7 +8,8 @@ use esop::refusal::Refusal;
 #[derive(Drop)]
 pub struct Blank {}
 
-// A sheet with its heading: `due` rows are still to come, and `at` bytes are written.
+// A sheet with its heading: `due` rows are still to come, and `at` bytes are written. It holds numbers alone, since
+// each call is lent the memory anew.
 #[derive(Drop)]
 pub struct Headed {
     pub(crate) heading: Heading,

@@ -56,12 +56,10 @@ fn small_sheet_at_once(rt: HostRuntime) -> Result<(), Fail> {
     Ok(())
 }
 
-// The number of the refusal, or 0 where the call was accepted.
-fn refused<S: Drop, T: Drop>(answer: Result<S, (T, WriteRefusal)>) -> u8 {
-    match answer {
-        Ok(_) => 0,
-        Err((_, why)) => why.number(),
-    }
+// The number of the refusal, if there is one.
+fn refused<S: Drop, T: Drop>(answer: Result<S, (T, WriteRefusal)>) -> Option<u8> {
+    let (_, why) = answer.err()?;
+    Some(why.number())
 }
 
 // A sheet of one input and one output, headed in 26 bytes.
@@ -74,11 +72,11 @@ fn heading_refusals(rt: HostRuntime) {
     let mut memory = [b'?'; 25];
     assert_eq!(rt;
         refused(Blank::new().head(&mut memory, heading(33, 1, 0))),
-        27
+        Some(27)
     );
     assert_eq!(rt;
         refused(Blank::new().head(&mut memory, heading(1, 1, 0))),
-        28
+        Some(28)
     );
     assert_eq!(rt; memory, [b'?'; 25]);
 }
@@ -89,11 +87,11 @@ fn row_refusals(rt: HostRuntime) -> Result<(), Fail> {
     let mut memory = [b'?'; 26];
     let sheet = headed(&mut memory, 0)?;
     let before = memory;
-    assert_eq!(rt; refused(sheet.row(&mut memory, &first)), 30);
+    assert_eq!(rt; refused(sheet.row(&mut memory, &first)), Some(30));
     assert_eq!(rt; memory, before);
     let sheet = headed(&mut memory, 1)?;
     let before = memory;
-    assert_eq!(rt; refused(sheet.row(&mut memory, &first)), 29);
+    assert_eq!(rt; refused(sheet.row(&mut memory, &first)), Some(29));
     assert_eq!(rt; memory, before);
     Ok(())
 }
@@ -103,11 +101,11 @@ fn end_refusals(rt: HostRuntime) -> Result<(), Fail> {
     let mut memory = [b'?'; 26];
     let sheet = headed(&mut memory, 1)?;
     let before = memory;
-    assert_eq!(rt; refused(sheet.end(&mut memory)), 31);
+    assert_eq!(rt; refused(sheet.end(&mut memory)), Some(31));
     assert_eq!(rt; memory, before);
     let sheet = headed(&mut memory, 0)?;
     let mut shorter = [b'?'; 4];
-    assert_eq!(rt; refused(sheet.end(&mut shorter)), 28);
+    assert_eq!(rt; refused(sheet.end(&mut shorter)), Some(28));
     assert_eq!(rt; shorter, [b'?'; 4]);
     Ok(())
 }

@@ -38,7 +38,8 @@ impl Pen<'_> {
     }
 }
 
-// Writes the sheet of the products from the start of the memory, and answers the number of its bytes.
+// Writes the sheet of the products from the start of the memory, and answers the number of its bytes. It takes no
+// `Heading`, since its number of rows is that of the products.
 pub fn write_sheet(
     memory: &mut [u8],
     inputs: u32,

@@ -12,10 +12,9 @@ const PRINTOUT: [u8; 107] = *b"# reduce tried 7 kept 1 finished\n# refine tried 
 // The count after a text is loaded into an empty cover of the places, or the number of the refusal.
 fn loaded(text: &[u8], list: &mut [Cube], places: &mut [Cube]) -> Result<usize, u8> {
     let mut cover = Cover::<Cube, MOST>::open(places);
-    match load(text, list, &mut cover) {
-        Ok(loaded) => Ok(loaded.count),
-        Err(why) => Err(why.number()),
-    }
+    load(text, list, &mut cover)
+        .map(|loaded| loaded.count)
+        .map_err(|why| why.number())
 }
 
 #[test]
