@@ -2,7 +2,7 @@
 -- Assumes nothing.
 use Rattle.std.proofs.Common.{◌≡◌, ℕ, ◌+◌, ◌<◌, ◌≤◌, List, ◌++◌, length, get_or, take, drop, set, sym, ap, ◌∙◌, arith}
 use lib.Seq.{append_snoc}
-use Rattle.std.proofs.lemmas.List.{drop_more, set_at, map_more, length-map, length-take-le, take_all}
+use Rattle.std.proofs.lemmas.List.{drop_more, set_at, map_more, length-map, length-take-le}
 use Rattle.expander.specs.Printing.{byte_of, table_of}
 
 -- a table with the first i characters spelled at its start
@@ -18,7 +18,3 @@ spell_more line t i h le =
     ∙ set_at front (get_or t i 0) (drop (i + 1) t) (byte_of (get_or line i 0)) i long
     ∙ sym (append_snoc front (byte_of (get_or line i 0)) (drop (i + 1) t))
     ∙ ap (λ x. x ++ drop (i + 1) t) (sym (map_more byte_of line i 0 h))
-
-pub spell_all : (line t : List ℕ) (i : ℕ) → i ≡ length line → spelled line t i ≡ table_of line ++ drop (length line) t
-spell_all line t i e =
-    ap (spelled line t) e ∙ ap (λ x. table_of x ++ drop (length line) t) (take_all (length line) line (omega arith))
