@@ -3,7 +3,7 @@
 use Rattle.std.proofs.Common.{◌≡◌, ℕ, ◌+◌, ◌-◌, ◌*◌, ◌/◌, ◌%◌, ◌^◌, ◌<◌, ◌≤◌, true, cond, ◌&&◌, eqb, ltb, leb, List, ◌++◌, length, get_or, take, drop, Some, Ok, Err, sym, refl, ap, ◌∙◌, subst, ap₂, ⊎_elim, mul_assoc, arith, pow_pos, pow_mono, pow-add}
 use Rattle.std.proofs.lemmas.Nat.{mod_low, shr_high, pow_below}
 use Rattle.std.proofs.lemmas.List.{take_at}
-use Rattle.std.proofs.lemmas.Bool.{cases_order, cases_lt, cond-true, cond-false, eq-eqb, lt-ltb, le-leb, lt-leb}
+use Rattle.std.proofs.lemmas.Bool.{cases_order, cases_lt, cond-true, eq-eqb, lt-ltb, le-leb}
 use Rattle.cube.specs.Bit.{bit}
 use Rattle.cube.specs.Cubes.{words, words_of}
 use Rattle.cube.specs.Covering.{value, meets, covers, covering}
@@ -88,11 +88,6 @@ module _ (k : ℕ) (t : List ℕ) (u : ℕ) (l : List Cube) (ins : inputs_of (le
 
   pub table_length : (k ≤ 10) × (length t ≡ 2 ^ k)
   table_length = let f = exponent_found 11 (length t) k ins in (let h = f.0 in omega arith, f.1)
-
-  pub no_room : (t' : List ℕ) (l' : List Cube) → length l < needed k t → t' ≡ t → l' ≡ l → Expanded t u l (Err Room) t' l'
-  no_room t' l' h et el =
-      let e = asked_last ∙ cond-false _ _ _ (lt-leb (needed k t) (length l) h) in
-      record { answer = sym (ap counted e); table = et; list = el ∙ sym (ap (λ r. filled r l) e); fewest = tt; meaning = tt }
 
   pub placed : (n : ℕ) (t' : List ℕ) (l' : List Cube) → needed k t ≤ length l → n ≡ needed k t → t' ≡ t
       → l' ≡ chosen_products k t (start_of u) ++ drop (needed k t) l → Expanded t u l (Ok n) t' l'

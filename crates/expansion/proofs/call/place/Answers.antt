@@ -1,6 +1,6 @@
-use Rattle.std.proofs.Common.{◌≡◌, ◌++◌, length, drop, ap, ◌∙◌, arith, rules}
+use Rattle.std.proofs.Common.{◌≡◌, ◌++◌, length, drop, ap, ◌∙◌, arith}
 use Rattle.expansion.specs.Expansions.{needed, chosen_products}
-use Rattle.expansion.proofs.AnswerLaws.{table_length, no_room, placed}
+use Rattle.expansion.proofs.AnswerLaws.{table_length, placed}
 use Rattle.expansion.proofs.call.place.Goals as goal
 
 pub survey-count-requires : goal.survey-count-requires
@@ -13,11 +13,6 @@ emit-requires c =
     let same = c.survey-count.ensures.table in
     let less : needed c.args.k c.survey-count.new.table ≡ needed c.args.k c.args.table.now = ap (needed c.args.k) same in
     record { inputs = (n.0, ap length same ∙ n.1); room = omega (arith, c.survey-count.ensures.count) }
-
-pub returns-then-count-list : goal.returns-then-count-list
-returns-then-count-list c =
-    no_room c.args.k c.args.table.now c.args.output c.args.list.now c.requires.inputs c.requires.bytes c.requires.output
-    _ _ (omega (arith, c.survey-count.ensures.count)) c.survey-count.ensures.table (search rules)
 
 pub returns : goal.returns
 returns c =
