@@ -30,8 +30,8 @@ fn looked_up(byte: u8) -> u8
     SIZES[byte as usize]
 }
 
-// The size of the byte, which is the fewest. It is apart from `size`, so that a size of another byte is found there, and
-// not in the proof that this is the fewest.
+// The size of the byte, which is the fewest. It is apart from `size`, so that a size of another byte is found there,
+// and not in the proof that this is the fewest.
 fn fewest_of(byte: u8) -> u8
     ensures exact { result ≡ size_of byte }
     ensures fewest { Fewest byte result }

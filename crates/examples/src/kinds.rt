@@ -56,6 +56,7 @@ fn print_joined(rt: &HostRuntime, first: BlockProduct, second: BlockProduct) -> 
     )
 }
 
+// Neither 170 nor 204 is 0, so both make a product.
 pub(crate) fn blocks(rt: &HostRuntime) -> io::Result<()> {
     if let (Ok(first), Ok(second)) = (block(170), block(204)) {
         print_joined(rt, first, second)?;

@@ -3,7 +3,7 @@ ghost use Rattle.std.specs.Prelude.{◌≡◌, length};
 ghost use Rattle.expansion.specs.Answers.{expansion_of};
 ghost use Rattle.expansion.specs.Tables.{inputs_of};
 ghost use Rattle.sheet.specs.Refusing.{length_within, kept_within, Answered};
-ghost use Rattle.expander.specs.Printing.{inputs_among, sheet_from, sheet_of, sheet_or, printed};
+ghost use Rattle.expander.specs.Printing.{inputs_among, sheet_from, sheet_of, printed};
 
 use crate::line::{line_of, spell};
 use crate::refusal::PrintRefusal;
@@ -18,19 +18,12 @@ fn sheet_inputs(len: usize) -> u32
     inputs_of(len).unwrap_or(1).max(1)
 }
 
-// Writes the sheet of the products.
-fn put_sheet(inputs: u32, products: &[Cube], text: &mut [u8]) -> Result<usize, PrintRefusal>
-    ensures { Answered (sheet_or text.old inputs products.now) text.old result text.new }
-{
-    Ok(write_sheet(text, inputs, 1, products)?)
-}
-
 // Expands the table into the list, and writes the sheet of its products.
 fn sheet_with(table: &mut [u8], list: &mut [Cube], text: &mut [u8]) -> Result<usize, PrintRefusal>
     ensures { Answered (sheet_from text.old (inputs_among (inputs_of (length table.old))) (expansion_of table.old 0 (length list.old))) text.old result text.new }
 {
     let count = expand(table, 0, list)?;
-    put_sheet(sheet_inputs(table.len()), &list[..count], text)
+    Ok(write_sheet(text, sheet_inputs(table.len()), 1, &list[..count])?)
 }
 
 // Writes the sheet of a line. A line longer than a table can be has no place in the table's memory.

@@ -1,5 +1,5 @@
-// Why a line gives no sheet. The minimizer has a type of the same shape: one type for both, with a program's own refusals
-// as a parameter, would have two `From`s that overlap.
+// Why a line gives no sheet. The minimizer has a type of the same shape: one type for both, with a program's own
+// refusals as a parameter, would have two `From`s that overlap.
 ghost use Rattle.std.specs.Prelude.{◌≡◌};
 ghost use Rattle.expander.specs.Refusals.{number};
 ghost use Rattle.expander.specs.declared.refusal.PrintRefusal.TheVariants.{Table, Sheet};

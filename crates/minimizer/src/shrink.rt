@@ -11,7 +11,8 @@ use sheet::RunSummary;
 // How many groups each run may try.
 const BUDGET: u32 = 1_000_000;
 
-// The count of the products that are left, and the two runs.
+// The count of the products that are left, and the two runs. `Minimized` has them with the heading beside: it is
+// public, and its fields are.
 #[derive(Clone, Copy)]
 pub struct Shrunk {
     pub(crate) count: usize,

@@ -26,7 +26,7 @@ fn judge(text: &[u8], places: usize) -> Result<Heading, Refused>
     }
 }
 
-// Stores the products of a text that was judged right.
+// Stores the products of a text that was judged right, so that the loop ends at its end and no refusal comes.
 // A loop of its own: only such a text has a place in the list for each product, so none is looked for.
 fn store(text: &[u8], list: &mut [Cube])
     requires { accepted (read (length list.old) text.now) ≡ true }

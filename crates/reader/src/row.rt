@@ -25,7 +25,7 @@ fn form_at(part: &[u8], i: usize) -> Option<(u32, u32)>
     form(part[i])
 }
 
-// An output by its character: whether it is driven.
+// An output by its character: whether it is driven. The characters of a row are told apart by cases, as in `form`.
 fn driven(b: u8) -> Option<u32>
     ensures { result ≡ driven_bit b }
 {

@@ -1,7 +1,6 @@
 -- The line of a run.
 -- Assumes nothing.
-use Rattle.std.proofs.Common.{◌≡◌, ℕ, ◌+◌, ◌%◌, ◌<◌, [], ◌∷◌, ◌++◌, length, codes, decimal, sym, refl, ap, ◌∙◌, arith, length-append}
-use Rattle.std.proofs.lemmas.Fmt.{decimal_digit}
+use Rattle.std.proofs.Common.{◌≡◌, ◌+◌, ◌++◌, length, codes, decimal, refl, arith, length-append}
 use Rattle.esop.specs.declared.strategy.Strategy.{Strategy}
 use Rattle.esop.specs.declared.strategy.Strategy.TheVariants.{Reduce, Refine}
 use Rattle.sheet.specs.declared.summary.RunSummary.{RunSummary}

@@ -28,7 +28,7 @@ impl Pen<'_> {
 }
 
 // Writes the line of a refusal to the start of the memory, and answers the number of its bytes; where the memory is too
-// short for it, nothing is written.
+// short for it, nothing is written. It takes any number; for a type of refusals there is `write_answer`.
 pub fn write_refusal(memory: &mut [u8], number: u8) -> Option<usize>
     ensures answer { result ≡ length_within memory.old (refusal_text number) }
     ensures text { memory.new ≡ kept_within memory.old (refusal_text number) }

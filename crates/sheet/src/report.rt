@@ -8,7 +8,7 @@ use crate::summary::RunSummary;
 use esop::ending::End;
 use esop::strategy::Strategy;
 
-// What stands before the number of groups tried.
+// What stands before the number of groups tried. The name stands in it whole: a pen writes bytes, and displays nothing.
 fn start(strategy: Strategy) -> &'static [u8]
     ensures { result.now ≡ start_text strategy }
 {
@@ -53,7 +53,7 @@ impl Pen<'_> {
 }
 
 // Writes the line of a run from place `at` on, and answers the place past it; where it does not fit the memory,
-// nothing is written.
+// nothing is written. The place is told apart from the memory, since it may lie past its end.
 pub fn write_run(memory: &mut [u8], at: usize, run: RunSummary) -> Option<usize>
     ensures answer { result ≡ past_within memory.old at (run_text run) }
     ensures text { memory.new ≡ kept_from memory.old at (run_text run) }

@@ -1,7 +1,6 @@
 use Rattle.std.proofs.Common.{get_or, sym, ap, ◌∙◌, arith}
-use Rattle.std.proofs.lemmas.List.{at_drop_all}
-use Rattle.reader.specs.Numbers.{within, value_from}
-use Rattle.reader.proofs.NumberLaws.{digit_read, value_past, within_in}
+use Rattle.reader.specs.Numbers.{within}
+use Rattle.reader.proofs.NumberLaws.{digit_read, value_past}
 use Rattle.reader.proofs.number.value.Goals as goal
 
 pub returns-in_err-checked_mul : goal.returns-in_err-checked_mul
@@ -15,7 +14,3 @@ returns-in_err-n c =
     let d = digit_read (get_or c.args.digits.now c.loop-b.b-index 0) c.in_ok-digit.digit c.in_ok-digit.ensures.cases (omega (arith, c.in_ok-digit.ensures.value)) in
     c.from_residual-in_err-n.ensures
     ∙ sym (ap (within _ _) (sym c.loop-b.invariant.1) ∙ value_past 0 4294967295 _ _ _ c.loop-b-test.true d.0 (omega (arith, c.in_err-n.ensures)))
-
-pub returns : goal.returns
-returns c =
-    sym (ap (within _ _) (sym c.loop-b.invariant.1 ∙ at_drop_all (value_from _) _ _ c.loop-b-test.false) ∙ within_in _ _ _ (omega arith) c.loop-b.invariant.0)

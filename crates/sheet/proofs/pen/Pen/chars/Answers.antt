@@ -6,9 +6,6 @@ use Rattle.sheet.proofs.pen.Pen.chars.Goals as goal
 pub loop-j-init : goal.loop-j-init
 loop-j-init g c = chars_none _ _
 
-pub text-requires : goal.text-requires
-text-requires g c = let at = c.loop-j.invariant.at in let size = c.loop-j.invariant.size in omega arith
-
 pub loop-j-preserved : goal.loop-j-preserved
 loop-j-preserved g c = chars_next _ _ c.loop-j.j c.char_at.result (omega arith) c.char_at.ensures c.loop-j.invariant c.text.ensures
 
