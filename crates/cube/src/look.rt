@@ -42,11 +42,14 @@ impl Cube {
         if i >= 32 {
             return Form::Absent;
         }
-        match (has(self.zeros, i), has(self.ones, i)) {
-            (true, true) => Form::Absent,
-            (true, false) => Form::Negative,
-            (false, _) => Form::Positive,
+        // One test after the other: a `match` of both takes half as much time again.
+        if !has(self.zeros, i) {
+            return Form::Positive;
         }
+        if !has(self.ones, i) {
+            return Form::Negative;
+        }
+        Form::Absent
     }
 
     // Whether output o is driven; one past the last never is.

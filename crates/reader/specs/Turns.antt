@@ -29,7 +29,7 @@ Onward r s = length s.rest.now < length r.rest.now
 -- the line that is handed out is the first piece, and the reader goes past it
 abbrev pub Moved : Reader → Reader → Option (Result Line ReadRefusal) → Type 0
 Moved r s (Some (Ok l)) = ((t : List ℕ) × (pieces_left r ≡ ended t ∷ pieces_left s) × (shown l ≡ class_of t)) × Kept r s × Onward r s
-Moved r s (Some (Err e)) = (pieces_left r ≡ broken r.rest.now ∷ []) × (e ≡ why.Unended)
+Moved r s (Some (Err e)) = (pieces_left r ≡ broken r.rest.now ∷ []) × (e ≡ why.Unended) × Kept r s
 Moved r s None = (pieces_left r ≡ []) × Kept r s
 
 -- the answer r of the call, and the state t after it, are those of a step

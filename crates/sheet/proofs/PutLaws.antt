@@ -1,7 +1,7 @@
 -- Texts put into memory one after another, and their lengths.
 -- Assumes nothing.
-use Rattle.std.proofs.Common.{◌≡◌, ℕ, zero, suc, ◌+◌, ◌≤◌, List, [], ◌∷◌, ◌++◌, length, codes, sym, refl, ap, ◌∙◌, subst, add-one, arith, length-append}
-use lib.Seq.{paste}
+use Rattle.std.proofs.Common.{◌≡◌, ℕ, zero, suc, ◌+◌, ◌<◌, ◌≤◌, List, [], ◌∷◌, ◌++◌, length, set, codes, sym, refl, ap, ◌∙◌, subst, add-one, arith, length-append}
+use lib.Seq.{paste, paste-zero, paste-suc}
 use Rattle.std.proofs.lemmas.List.Edits.{paste-paste}
 use Rattle.cube.specs.declared.cube.Cube.{Cube}
 use Rattle.sheet.specs.Text.{decimal, field, line, type_text, heading_text, chars, input_chars, output_chars, row_text}
@@ -20,6 +20,16 @@ put_put {m} {n} {o} {p} {q} {r} s t le a b =
           b.memory ∙ ap (λ x. written x q t) a.memory ∙ ap (λ x. written (written m p s) x t) a.past
           ∙ paste-paste m p s t (length s) (length t) refl refl le ∙ ap (paste m p (s ++ t)) (sym (length-append s t));
       past = let e = length-append s t in let f = a.past in let g = b.past in omega arith;
+    }
+
+-- one character
+pub put_char : (m : List ℕ) (p x : ℕ) → p < length m → Put m p (x ∷ []) (set m p x) (p + 1)
+put_char m p x lt =
+    let u = x ∷ [] in
+    let e : p ≡ p + 0 = omega arith in
+    record {
+      memory = ap (λ y. set y p x) (paste-zero m p u) ∙ ap (λ k. set (paste m p u 0) k x) e ∙ paste-suc m p u 0 0 (omega arith) (omega arith);
+      past = omega arith;
     }
 
 pub chars_length : (f : ℕ → ℕ) (n : ℕ) → length (chars f n) ≡ n

@@ -62,9 +62,9 @@ impl Heading {
     fn kept_at(self, product: &Cube, j: u32) -> bool
         ensures { result ≡ keeps_at self.inputs self.outputs product.now j }
     {
-        let told_input = j < self.inputs || matches!(product.form(j), Form::Absent);
-        let told_output = j < self.outputs || !product.drives(j);
-        told_input && told_output
+        // in one expression, so that a place that the heading tells is not looked at
+        (j < self.inputs || matches!(product.form(j), Form::Absent))
+            && (j < self.outputs || !product.drives(j))
     }
 
     // Whether the product has only inputs and outputs that the heading tells.

@@ -1,6 +1,7 @@
 // A pen: memory that is being written, and the place that is written next.
-ghost use Rattle.std.specs.Prelude.{◌≡◌, ◌+◌, ◌≤◌, length, nat_le};
+ghost use Rattle.std.specs.Prelude.{◌≡◌, ◌+◌, ◌<◌, ◌≤◌, [], ◌∷◌, length, nat_le};
 ghost use Rattle.sheet.specs.Pens.{Room, Wrote, WroteChars};
+ghost use Rattle.sheet.specs.Text.{digit as digit_of, decimal};
 
 use itoa::{Buffer, Integer};
 
@@ -53,6 +54,29 @@ impl<'a> Pen<'a> {
         self.text(Buffer::new().format(n).as_bytes());
     }
 
+    // Writes a number below 1000 in decimal, as those of a heading and of a refusal are: digit by digit, in less than
+    // half the time that one of any size takes.
+    pub(crate) fn short(&mut self, n: u32)
+        requires short { n < 1000 }
+        requires room { Room self.old (decimal n) }
+        ensures { Wrote self.old (decimal n) self.new }
+    {
+        match n {
+            0..=9 => self.text(&[digit(n)]),
+            10..=99 => self.text(&[digit(n / 10), digit(n)]),
+            _ => self.text(&[digit(n / 100), digit(n / 10), digit(n)]),
+        }
+    }
+
+    // Writes one character. It is a store of its own, since for a text of one byte `text` takes several times as long.
+    fn char(&mut self, char: u8)
+        requires { self.old.at < length self.old.memory.now }
+        ensures { Wrote self.old (char ∷ []) self.new }
+    {
+        self.memory[self.at] = char;
+        self.at += 1;
+    }
+
     // Writes n characters: of each number below n, the one that `char_at` answers.
     pub(crate) fn chars<F: Fn(u32) -> u8>(&mut self, n: u32, char_at: F)
         requires callable { F.IsAlwaysCallable char_at }
@@ -60,9 +84,16 @@ impl<'a> Pen<'a> {
         ensures { WroteChars (λ j r. F.post char_at j r) self.old n self.new }
     {
         for j in 0..n {
-            self.text(&[char_at(j)]);
+            self.char(char_at(j));
         }
     }
+}
+
+// The character of the last decimal digit of n.
+fn digit(n: u32) -> u8
+    ensures { result ≡ digit_of n }
+{
+    b'0' + (n % 10) as u8
 }
 
 // How many digits n has.

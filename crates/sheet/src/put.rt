@@ -40,7 +40,7 @@ impl Pen<'_> {
         ensures { Wrote self.old (line (field letter n)) self.new }
     {
         self.text(&[b'.', letter, b' ']);
-        self.decimal(n);
+        self.short(n);
         self.text(b"\n");
     }
 

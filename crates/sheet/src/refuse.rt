@@ -22,7 +22,7 @@ impl Pen<'_> {
         ensures { Wrote self.old (refusal_text number) self.new }
     {
         self.text(b"refused ");
-        self.decimal(number);
+        self.short(u32::from(number));
         self.text(b"\n");
     }
 }

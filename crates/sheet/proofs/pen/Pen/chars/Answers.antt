@@ -7,7 +7,7 @@ pub loop-j-init : goal.loop-j-init
 loop-j-init g c = chars_none _ _
 
 pub loop-j-preserved : goal.loop-j-preserved
-loop-j-preserved g c = chars_next _ _ c.loop-j.j c.char_at.result (omega arith) c.char_at.ensures c.loop-j.invariant c.text.ensures
+loop-j-preserved g c = chars_next _ _ c.loop-j.j c.char_at.result (omega arith) c.char_at.ensures c.loop-j.invariant c.char.ensures
 
 pub returns : goal.returns
 returns g c =
